@@ -1,0 +1,30 @@
+-- A count of accepted calls and a last time (document 01, "Domain": times at most 2^62, at most 2^40 accepted calls). Definitions only.
+use Prim.Native.Nat.{ℕ, _+_, _^_, min}
+use mathlib.Core.List.{List, [], _∷_}
+use lib.Dec.{ltb, leb}
+use Rattle.config.specs.declared.ledger.Ledger.{Ledger}
+use Rattle.config.specs.Refusal.{Check, when, timeBeyond, callsUsedUp, timeBack}
+
+abbrev pub opened : ℕ → Ledger
+opened time = record { calls = 0; last = time }
+
+abbrev pub resumed : Ledger → ℕ → Ledger
+resumed l calls = record { calls = calls; last = l .last }
+
+abbrev pub counted : Ledger → Ledger
+counted l = record { calls = min (l .calls + 1) 18446744073709551615; last = l .last }
+
+abbrev pub moved : Ledger → ℕ → Ledger
+moved l time = record { calls = min (l .calls + 1) 18446744073709551615; last = time }
+
+-- 7: a time above 2^62
+abbrev pub timeCheck : ℕ → Check
+timeCheck time = when timeBeyond (ltb (2 ^ 62) time)
+
+-- 17: 2^40 calls were accepted
+abbrev pub countedChecks : Ledger → List Check
+countedChecks l = when callsUsedUp (leb (2 ^ 40) (l .calls)) ∷ []
+
+-- 7, 17, and 11: a time before the last accepted one
+abbrev pub timedChecks : Ledger → ℕ → List Check
+timedChecks l time = timeCheck time ∷ when timeBack (ltb time (l .last)) ∷ countedChecks l

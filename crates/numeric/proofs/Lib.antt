@@ -1,0 +1,9 @@
+pub mod Products
+pub mod Patterns
+pub mod Absolute
+pub mod Values
+pub mod Nearest
+pub mod Truncation
+pub mod Closest
+pub mod Nanoseconds
+pub mod Search

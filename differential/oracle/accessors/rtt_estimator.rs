@@ -1,0 +1,6 @@
+
+impl RttEstimator {
+    pub fn last_sample(&self) -> Option<Instant> {
+        self.last_sample
+    }
+}

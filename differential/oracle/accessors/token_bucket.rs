@@ -1,0 +1,6 @@
+
+impl TokenBucket {
+    pub fn last_refill(&self) -> Instant {
+        self.last_refill
+    }
+}

@@ -1,0 +1,79 @@
+//! Makes scripts. A suite is a fixed list of boundary cases, the same for every seed, and then random episodes.
+
+use crate::random::Random;
+use crate::script::Script;
+
+mod bucket;
+mod coalescing;
+mod config;
+mod ecn;
+mod numeric;
+mod peers;
+mod rtt;
+mod times;
+mod values;
+
+pub struct Suite {
+    pub name: &'static str,
+    boundary: fn(&mut Script),
+    /// Adds some calls that belong together, about as many as the last argument says.
+    episode: fn(&mut Script, &mut Random, u64),
+}
+
+pub const SUITES: [Suite; 7] = [
+    Suite {
+        name: "numeric",
+        boundary: numeric::boundary,
+        episode: numeric::episode,
+    },
+    Suite {
+        name: "config",
+        boundary: config::boundary,
+        episode: config::episode,
+    },
+    Suite {
+        name: "ecn",
+        boundary: ecn::boundary,
+        episode: ecn::episode,
+    },
+    Suite {
+        name: "rtt",
+        boundary: rtt::boundary,
+        episode: rtt::episode,
+    },
+    Suite {
+        name: "peers",
+        boundary: peers::boundary,
+        episode: peers::episode,
+    },
+    Suite {
+        name: "bucket",
+        boundary: bucket::boundary,
+        episode: bucket::episode,
+    },
+    Suite {
+        name: "coalescing",
+        boundary: coalescing::boundary,
+        episode: coalescing::episode,
+    },
+];
+
+/// The suite's boundary cases and `calls` random ones.
+pub fn generate(suite: &Suite, calls: usize, seed: u64) -> Script {
+    let mut script = Script::default();
+    (suite.boundary)(&mut script);
+    let end = script.len() + calls;
+    // Many episodes in a short script, some long ones in a long script.
+    let longest = (calls as u64 / 50).clamp(30, 5000);
+    let mut random = Random::new(seed, suite.name);
+    while script.len() < end {
+        let length = if random.percent(70) {
+            random.between(10, 60)
+        } else {
+            random.between(20, longest)
+        };
+        (suite.episode)(&mut script, &mut random, length);
+    }
+    script.truncate(end);
+    script
+}

@@ -1,0 +1,5 @@
+#[allow(dead_code)]
+mod clock;
+#[allow(dead_code)]
+mod congestion;
+fn main() {}

@@ -1,0 +1,47 @@
+//! The operations of a script by name (differential/README.md).
+
+pub const F32_OF_U32: u64 = 16;
+pub const F64_OF_U64: u64 = 17;
+pub const U32_OF_F32: u64 = 18;
+pub const U64_OF_F64: u64 = 19;
+pub const MAX_F32: u64 = 20;
+pub const CLAMP_F32: u64 = 21;
+pub const ABS_F32: u64 = 22;
+pub const AS_SECS_F64: u64 = 23;
+pub const FROM_SECS_F64: u64 = 24;
+pub const WRAPPING_MUL: u64 = 25;
+
+pub const CONFIG_NEW: u64 = 32;
+pub const CONFIG_SET: u64 = 33;
+pub const CONFIG_CHECK: u64 = 34;
+
+pub const ECN_NEW: u64 = 48;
+pub const PROCESS_TOS: u64 = 49;
+pub const PROCESS_CE: u64 = 50;
+pub const ECN_CALLS: u64 = 51;
+
+pub const RTT_NEW: u64 = 64;
+pub const RTT_UPDATE: u64 = 65;
+pub const RTT_CALLS: u64 = 66;
+
+pub const PEERS_NEW: u64 = 80;
+pub const PEERS_UPDATE: u64 = 81;
+pub const PEERS_CALLS: u64 = 82;
+pub const PEERS_SHOW: u64 = 83;
+
+pub const BUCKET_NEW: u64 = 96;
+pub const REFILL: u64 = 97;
+pub const TRY_CONSUME: u64 = 98;
+pub const FORCE_CONSUME: u64 = 99;
+pub const SET_RATE: u64 = 100;
+pub const SET_CAPACITY: u64 = 101;
+pub const TIME_UNTIL_AVAILABLE: u64 = 102;
+pub const BUCKET_CALLS: u64 = 103;
+
+pub const BYTES_EMPTY: u64 = 112;
+pub const BYTES_JOIN: u64 = 113;
+pub const HASH_BYTES: u64 = 114;
+pub const FROM_TOPIC_AND_KEY: u64 = 115;
+pub const KEYLESS: u64 = 116;
+pub const KEY_NEW: u64 = 117;
+pub const HASH_IS: u64 = 118;
