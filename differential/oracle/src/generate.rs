@@ -20,7 +20,7 @@ pub struct Suite {
     episode: fn(&mut Script, &mut Random, u64),
 }
 
-pub const SUITES: [Suite; 7] = [
+pub static SUITES: [Suite; 7] = [
     Suite {
         name: "numeric",
         boundary: numeric::boundary,
@@ -57,6 +57,17 @@ pub const SUITES: [Suite; 7] = [
         episode: coalescing::episode,
     },
 ];
+
+/// The suite of that name.
+pub fn suite(name: &str) -> Option<&'static Suite> {
+    SUITES.iter().find(|suite| suite.name == name)
+}
+
+/// The name of a field of the settings (its number modulo 25), and whether it is a float.
+pub fn config_field(number: u64) -> (&'static str, bool) {
+    let field = number % config::FIELD_NAMES.len() as u64;
+    (config::FIELD_NAMES[field as usize], config::is_float(field))
+}
 
 /// The suite's boundary cases and `calls` random ones.
 pub fn generate(suite: &Suite, calls: usize, seed: u64) -> Script {

@@ -8,7 +8,7 @@ use crate::line::Lines;
 use crate::script::{read_record, Record};
 
 mod bucket;
-mod coalescing;
+pub mod coalescing;
 mod config;
 mod ecn;
 mod numeric;

@@ -49,11 +49,7 @@ const QUEUE_P2: u64 = 21;
 const P0_SHARE: u64 = 22;
 const P0_MIN: u64 = 23;
 
-fn bits(float: f32) -> u64 {
-    u64::from(float.to_bits())
-}
-
-/// Fields whose floats are checked, and those whose f32 is printed.
+/// The fields that are f32.
 pub fn is_float(field: u64) -> bool {
     matches!(field, MD_HARD | MD_SOFT | DECAY | REPAIR_RATIO | P0_SHARE)
 }
@@ -282,14 +278,13 @@ fn float_edge(random: &mut Random) -> u64 {
 fn rate_edge(random: &mut Random) -> u64 {
     match random.below(4) {
         0 => random.near(RATE_LIMIT),
-        1 => random.near(random_default_rate(random.below(3))),
+        1 => {
+            let default = random.pick(&[10_000, 50_000, 100_000_000]);
+            random.near(default)
+        }
         2 => random.below(4),
         _ => u32_value(random),
     }
-}
-
-fn random_default_rate(which: u64) -> u64 {
-    [10_000, 100_000_000, 50_000][which as usize]
 }
 
 fn queue_edge(random: &mut Random) -> u64 {

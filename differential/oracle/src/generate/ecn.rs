@@ -100,8 +100,8 @@ pub fn episode(script: &mut Script, random: &mut Random, length: u64) {
         script.call(ECN_NEW, &[]);
     }
     let traffic = Traffic::new(random);
-    // Long enough for some windows.
-    for _ in 0..length.max(length * 4) {
+    // Long enough for a window or more.
+    for _ in 0..3 * length {
         traffic.call(script, random);
     }
     if random.percent(20) {

@@ -33,10 +33,6 @@ fn each(script: &mut Script, operation: u64, arguments: &[u64]) {
     }
 }
 
-fn bits(float: f32) -> u64 {
-    u64::from(float.to_bits())
-}
-
 fn maxima(script: &mut Script) {
     let nan = u64::from(NAN);
     let pairs = [

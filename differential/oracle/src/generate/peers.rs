@@ -7,10 +7,6 @@ use crate::operation::*;
 use crate::random::Random;
 use crate::script::Script;
 
-fn bits(float: f32) -> u64 {
-    u64::from(float.to_bits())
-}
-
 pub fn boundary(script: &mut Script) {
     script.call(PEERS_NEW, &[bits(100.0)]);
     script.call(PEERS_SHOW, &[0]);
@@ -121,7 +117,7 @@ pub fn episode(script: &mut Script, random: &mut Random, length: u64) {
 fn call(script: &mut Script, random: &mut Random, times: &mut Times, samples: &mut Samples, ids: &Ids) {
     if random.percent(4) {
         let place = random.below(70);
-        script.call(PEERS_SHOW, &[widened(random, place, 32)]);
+        script.call(PEERS_SHOW, &[widened(random, place, 6)]);
         return;
     }
     let (time, sample) = time_and_sample(random, times, samples);

@@ -6,10 +6,6 @@ use crate::operation::*;
 use crate::random::Random;
 use crate::script::Script;
 
-fn bits(float: f32) -> u64 {
-    u64::from(float.to_bits())
-}
-
 /// Samples that are accepted, at the ends of their range too.
 pub fn edge_samples() -> [u64; 9] {
     [
@@ -129,21 +125,24 @@ impl Samples {
         Self {
             mean: random.pick(&[0.05, 0.7, 5.0, 20.0, 100.0, 480.0, 30_000.0, 200_000.0]),
             jitter: random.pick(&[0.001, 0.05, 0.3, 1.0]),
-            kind: random.below(10),
+            kind: random.below(14),
             inflated: false,
         }
     }
 
     /// The bits of a sample that is accepted.
     pub fn next(&mut self, random: &mut Random) -> u64 {
-        if random.below(40) == 0 {
-            self.inflated = !self.inflated;
-        }
+        // Inflated now and then, for a dozen samples or so.
+        self.inflated = if self.inflated {
+            random.below(12) != 0
+        } else {
+            random.below(60) == 0
+        };
         match self.kind {
             0 => random.pick(&edge_samples()),
             1 => random.below(u64::from(1_000_000f32.to_bits()) + 1),
             2 => bits(random.below(1_000_001) as f32),
-            3 => bits(random.of_bits(20) as f32 * 0.125).min(bits(1_000_000.0)),
+            3 => bits(random.of_bits(20) as f32 * 0.125),
             4 => random.of_bits(24),
             _ => bits(self.around_mean(random)),
         }

@@ -59,7 +59,7 @@ impl Times {
             2 => random.below(self.now),
             3 => TIME_LIMIT + 1,
             4 => random.pick(&[TIME_LIMIT + 2, 1 << 63, u64::MAX]),
-            _ => TIME_LIMIT + random.of_bits(63),
+            _ => TIME_LIMIT + 1 + random.of_bits(63),
         }
     }
 }

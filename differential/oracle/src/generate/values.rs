@@ -82,6 +82,11 @@ pub const U64S: [u64; 30] = [
     u64::MAX,
 ];
 
+/// The bits of an f32 as an argument.
+pub fn bits(float: f32) -> u64 {
+    u64::from(float.to_bits())
+}
+
 /// f32 by their bits: zeros, subnormals, halves, the ends of u32, infinities, NaN.
 pub fn f32s() -> Vec<u64> {
     let floats = [
@@ -190,9 +195,12 @@ fn tie(random: &mut Random, precision: u64, most: u64) -> u64 {
 pub fn f32_value(random: &mut Random) -> u64 {
     match random.below(6) {
         0 => random.pick(&f32s()),
-        1 => u64::from((random.below(1000) as f32).to_bits()),
-        2 => u64::from(random.near(u64::from((random.of_bits(33) as f32).to_bits())) as u32),
-        3 => u64::from((random.of_bits(25) as f32 * 0.5).to_bits()) | random.below(2) << 31,
+        1 => bits(random.below(1000) as f32),
+        2 => {
+            let whole = random.of_bits(33) as f32;
+            random.near(bits(whole))
+        }
+        3 => bits(random.of_bits(25) as f32 * 0.5) | random.below(2) << 31,
         4 => random.of_bits(23) | random.below(2) << 31,
         _ => random.word() >> 32,
     }

@@ -1,0 +1,3 @@
+pub mod Coalescing
+pub mod TokenBucket
+pub mod TokenBucketAlone

@@ -1,0 +1,102 @@
+//! Scripts as text, one call a line.
+
+use std::io::{self, Read, Write};
+
+use crate::generate::config_field;
+use crate::operation::*;
+use crate::script::{read_record, Record};
+
+/// Each record of `script`: its index and the call.
+pub fn show(mut script: impl Read, mut output: impl Write) -> io::Result<()> {
+    let mut index = 0u64;
+    while let Some(record) = read_record(&mut script)? {
+        writeln!(output, "{index}: {}", text(&record))?;
+        index += 1;
+    }
+    output.flush()
+}
+
+/// A call in words.
+pub fn text(record: &Record) -> String {
+    let [a, b, c, ..] = record.arguments;
+    match record.operation {
+        F32_OF_U32..=WRAPPING_MUL => numeric(record),
+        CONFIG_NEW if a & 1 == 1 => "disabled settings".into(),
+        CONFIG_NEW => "default settings".into(),
+        CONFIG_SET => config_set(a, b),
+        CONFIG_CHECK => "the settings are checked".into(),
+        ECN_NEW => "a new ECN processor".into(),
+        PROCESS_TOS => format!("process_tos({a:#04x})"),
+        PROCESS_CE => "process_ce()".into(),
+        ECN_CALLS => format!("the ECN processor's call count becomes {a}"),
+        RTT_NEW => format!("a new RTT estimator, default {}", f32_text(a)),
+        RTT_UPDATE => format!("update at time {a} with sample {}", f32_text(b)),
+        RTT_CALLS => format!("the RTT estimator's call count becomes {a}"),
+        PEERS_NEW => format!("a new tracker of peers, default {}", f32_text(a)),
+        PEERS_UPDATE => format!("update at time {a} for peer {b} with sample {}", f32_text(c)),
+        PEERS_CALLS => format!("the tracker's call count becomes {a}"),
+        PEERS_SHOW => format!("place {a} of the tracker is shown"),
+        BUCKET_NEW => format!("a new bucket at time {a}: rate {b}, capacity {c}"),
+        REFILL => format!("refill at time {a}"),
+        TRY_CONSUME => format!("try_consume at time {a} of {b} bytes"),
+        FORCE_CONSUME => format!("force_consume at time {a} of {b} bytes"),
+        SET_RATE => format!("set_rate at time {a} to {b}"),
+        SET_CAPACITY => format!("set_capacity to {a}"),
+        TIME_UNTIL_AVAILABLE => format!("time_until_available at time {a} for {b} bytes"),
+        BUCKET_CALLS => format!("the bucket's call count becomes {a}"),
+        BYTES_EMPTY => "the byte buffer is emptied".into(),
+        BYTES_JOIN => bytes_join(record),
+        HASH_BYTES => "hash_bytes of the byte buffer".into(),
+        FROM_TOPIC_AND_KEY => format!("from_topic_and_key, the topic being the buffer's first {a} bytes"),
+        KEYLESS => "keyless of the byte buffer".into(),
+        KEY_NEW => format!("InstanceKey::new({a:#018x}, {b:#018x})"),
+        HASH_IS => format!("is hash_bytes of the byte buffer {a:#018x}?"),
+        unknown => format!("unknown operation {unknown} {:?}", record.arguments),
+    }
+}
+
+fn numeric(record: &Record) -> String {
+    let [a, b, c, ..] = record.arguments;
+    match record.operation {
+        F32_OF_U32 => format!("f32_of_u32({a})"),
+        F64_OF_U64 => format!("f64_of_u64({a})"),
+        U32_OF_F32 => format!("u32_of_f32({})", f32_text(a)),
+        U64_OF_F64 => format!("u64_of_f64({})", f64_text(a)),
+        MAX_F32 => format!("max_f32({}, {})", f32_text(a), f32_text(b)),
+        CLAMP_F32 => format!("clamp_f32({}, {}, {})", f32_text(a), f32_text(b), f32_text(c)),
+        ABS_F32 => format!("abs_f32({})", f32_text(a)),
+        AS_SECS_F64 => format!("as_secs_f64({a} ns)"),
+        FROM_SECS_F64 => format!("from_secs_f64({})", f64_text(a)),
+        _ => format!("wrapping_mul({a}, {b})"),
+    }
+}
+
+fn config_set(field: u64, value: u64) -> String {
+    let (name, is_float) = config_field(field);
+    let value = if is_float {
+        f32_text(value)
+    } else {
+        value.to_string()
+    };
+    format!("field {field} of the settings, {name}, becomes {value}")
+}
+
+fn bytes_join(record: &Record) -> String {
+    let count = record.arguments[0];
+    let words = record.arguments[1..].iter();
+    let bytes: Vec<u8> = words
+        .flat_map(|word| word.to_le_bytes())
+        .take(count.min(32) as usize)
+        .collect();
+    format!("{count} bytes join the byte buffer: \"{}\"", bytes.escape_ascii())
+}
+
+fn f32_text(word: u64) -> String {
+    let wider = if word > u32::MAX.into() { ", wider" } else { "" };
+    let bits = word as u32;
+    format!("{:?} ({bits:#010x}{wider})", f32::from_bits(bits))
+}
+
+fn f64_text(bits: u64) -> String {
+    format!("{:?} ({bits:#018x})", f64::from_bits(bits))
+}
