@@ -7,13 +7,11 @@ pub struct Random {
 impl Random {
     /// A run of its own for each seed and name.
     pub fn new(seed: u64, name: &str) -> Self {
-        let state = name.bytes().fold(seed, |state, byte| {
-            Self {
-                state: state ^ u64::from(byte),
-            }
-            .word()
-        });
-        Self { state }
+        let mut random = Self { state: seed };
+        for byte in name.bytes() {
+            random.state = random.word() ^ u64::from(byte);
+        }
+        random
     }
 
     pub fn word(&mut self) -> u64 {

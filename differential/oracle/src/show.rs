@@ -33,7 +33,10 @@ pub fn text(record: &Record) -> String {
         RTT_UPDATE => format!("update at time {a} with sample {}", f32_text(b)),
         RTT_CALLS => format!("the RTT estimator's call count becomes {a}"),
         PEERS_NEW => format!("a new tracker of peers, default {}", f32_text(a)),
-        PEERS_UPDATE => format!("update at time {a} for peer {b} with sample {}", f32_text(c)),
+        PEERS_UPDATE => format!(
+            "update at time {a} for peer {b} with sample {}",
+            f32_text(c)
+        ),
         PEERS_CALLS => format!("the tracker's call count becomes {a}"),
         PEERS_SHOW => format!("place {a} of the tracker is shown"),
         BUCKET_NEW => format!("a new bucket at time {a}: rate {b}, capacity {c}"),
@@ -47,7 +50,9 @@ pub fn text(record: &Record) -> String {
         BYTES_EMPTY => "the byte buffer is emptied".into(),
         BYTES_JOIN => bytes_join(record),
         HASH_BYTES => "hash_bytes of the byte buffer".into(),
-        FROM_TOPIC_AND_KEY => format!("from_topic_and_key, the topic being the buffer's first {a} bytes"),
+        FROM_TOPIC_AND_KEY => {
+            format!("from_topic_and_key, the topic being the buffer's first {a} bytes")
+        }
         KEYLESS => "keyless of the byte buffer".into(),
         KEY_NEW => format!("InstanceKey::new({a:#018x}, {b:#018x})"),
         HASH_IS => format!("is hash_bytes of the byte buffer {a:#018x}?"),
@@ -63,7 +68,12 @@ fn numeric(record: &Record) -> String {
         U32_OF_F32 => format!("u32_of_f32({})", f32_text(a)),
         U64_OF_F64 => format!("u64_of_f64({})", f64_text(a)),
         MAX_F32 => format!("max_f32({}, {})", f32_text(a), f32_text(b)),
-        CLAMP_F32 => format!("clamp_f32({}, {}, {})", f32_text(a), f32_text(b), f32_text(c)),
+        CLAMP_F32 => format!(
+            "clamp_f32({}, {}, {})",
+            f32_text(a),
+            f32_text(b),
+            f32_text(c)
+        ),
         ABS_F32 => format!("abs_f32({})", f32_text(a)),
         AS_SECS_F64 => format!("as_secs_f64({a} ns)"),
         FROM_SECS_F64 => format!("from_secs_f64({})", f64_text(a)),
@@ -88,11 +98,18 @@ fn bytes_join(record: &Record) -> String {
         .flat_map(|word| word.to_le_bytes())
         .take(count.min(32) as usize)
         .collect();
-    format!("{count} bytes join the byte buffer: \"{}\"", bytes.escape_ascii())
+    format!(
+        "{count} bytes join the byte buffer: \"{}\"",
+        bytes.escape_ascii()
+    )
 }
 
 fn f32_text(word: u64) -> String {
-    let wider = if word > u32::MAX.into() { ", wider" } else { "" };
+    let wider = if word > u32::MAX.into() {
+        ", wider"
+    } else {
+        ""
+    };
     let bits = word as u32;
     format!("{:?} ({bits:#010x}{wider})", f32::from_bits(bits))
 }

@@ -31,7 +31,15 @@ const REFUSED_RATES: [u64; 5] = [
     (1 << 32) + RATE_LIMIT + 1,
 ];
 const CAPACITIES: [u64; 9] = [
-    0, 1, 2, 1_472, 1_500, 10_000, 100_000, 999_999_999, RATE_LIMIT,
+    0,
+    1,
+    2,
+    1_472,
+    1_500,
+    10_000,
+    100_000,
+    999_999_999,
+    RATE_LIMIT,
 ];
 const BYTES: [u64; 8] = [0, 1, 100, 1_472, 1_500, 65_536, 999_999_999, RATE_LIMIT];
 const REFUSED_BYTES: [u64; 4] = [RATE_LIMIT + 1, (1 << 32) + 1, 1 << 63, u64::MAX];
@@ -82,7 +90,13 @@ fn credits(script: &mut Script) {
     script.call(REFILL, &[1_069_600_000]);
     script.call(BUCKET_NEW, &[7, 3, 10]);
     script.call(FORCE_CONSUME, &[7, RATE_LIMIT]);
-    for time in [333_333_340, 333_333_341, 666_666_674, SECOND + 7, 2 * SECOND] {
+    for time in [
+        333_333_340,
+        333_333_341,
+        666_666_674,
+        SECOND + 7,
+        2 * SECOND,
+    ] {
         script.call(REFILL, &[time]);
     }
 }
@@ -152,7 +166,18 @@ fn refused(script: &mut Script) {
 
 fn times(script: &mut Script) {
     script.call(BUCKET_NEW, &[5, 1, 1_000_000]);
-    for time in [4, 5, 5, 6, 5, TIME_LIMIT + 1, u64::MAX, TIME_LIMIT - 1, TIME_LIMIT, TIME_LIMIT - 1] {
+    for time in [
+        4,
+        5,
+        5,
+        6,
+        5,
+        TIME_LIMIT + 1,
+        u64::MAX,
+        TIME_LIMIT - 1,
+        TIME_LIMIT,
+        TIME_LIMIT - 1,
+    ] {
         script.call(REFILL, &[time]);
     }
     script.call(TRY_CONSUME, &[TIME_LIMIT, 1]);
@@ -160,7 +185,12 @@ fn times(script: &mut Script) {
 
 fn at_limit(script: &mut Script) {
     script.call(BUCKET_NEW, &[0, 1_000, 1_000]);
-    for (time, calls) in [(1, CALL_LIMIT - 2), (2, CALL_LIMIT + 1), (3, u64::MAX), (4, CALL_LIMIT - 1)] {
+    for (time, calls) in [
+        (1, CALL_LIMIT - 2),
+        (2, CALL_LIMIT + 1),
+        (3, u64::MAX),
+        (4, CALL_LIMIT - 1),
+    ] {
         script.call(BUCKET_CALLS, &[calls]);
         script.call(TRY_CONSUME, &[time, 1]);
         script.call(SET_CAPACITY, &[900]);
@@ -236,7 +266,11 @@ fn make(script: &mut Script, random: &mut Random) -> Run {
     let (time, rate, capacity) = match random.below(24) {
         0 => (times.now(), random.pick(&REFUSED_RATES), capacity(random)),
         1 => (times.now(), rate(random), random.pick(&REFUSED_BYTES)),
-        2 => (times.refused(random) | 1 << 63, rate(random), capacity(random)),
+        2 => (
+            times.refused(random) | 1 << 63,
+            rate(random),
+            capacity(random),
+        ),
         _ => (times.now(), rate(random), capacity(random)),
     };
     script.call(BUCKET_NEW, &[time, widened(random, rate, 32), capacity]);

@@ -43,7 +43,6 @@ pub fn boundary(script: &mut Script) {
         put(script, bytes);
         script.call(HASH_IS, &[hash]);
     }
-    script.call(HASH_IS, &[PUBLISHED[0].1]);
     nothing(script);
     topics(script);
     joins(script);
@@ -103,7 +102,10 @@ fn joins(script: &mut Script) {
         script.call(HASH_BYTES, &[]);
     }
     for count in [0, 1, 7, 8, 9, 31, 33, 1 << 32, u64::MAX] {
-        script.call(BYTES_JOIN, &[count, u64::MAX, 1, 1 << 63, 0x0102_0304_0506_0708]);
+        script.call(
+            BYTES_JOIN,
+            &[count, u64::MAX, 1, 1 << 63, 0x0102_0304_0506_0708],
+        );
     }
     script.call(HASH_BYTES, &[]);
 }

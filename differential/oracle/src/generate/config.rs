@@ -118,6 +118,7 @@ fn accepted_edges() -> Vec<(u64, u64)> {
         (24, 1),
         (24, 2),
         (24, 3),
+        (24, 256),
         (24, u64::MAX),
         (12, 255),
         (14, 256),
@@ -220,7 +221,11 @@ fn change(script: &mut Script, random: &mut Random) {
     } else {
         edge(random, field)
     };
-    let turns = if random.percent(3) { random.below(1 << 50) } else { 0 };
+    let turns = if random.percent(3) {
+        random.below(1 << 50)
+    } else {
+        0
+    };
     script.call(CONFIG_SET, &[field + 25 * turns, value]);
 }
 

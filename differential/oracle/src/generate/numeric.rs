@@ -12,7 +12,11 @@ pub fn boundary(script: &mut Script) {
     each(script, F32_OF_U32, &[1 << 32, (1 << 32) + 16_777_219]);
     each(script, F64_OF_U64, &U64S);
     each(script, U32_OF_F32, &f32s());
-    each(script, U32_OF_F32, &[(1 << 32) + u64::from(2.5f32.to_bits())]);
+    each(
+        script,
+        U32_OF_F32,
+        &[(1 << 32) + u64::from(2.5f32.to_bits())],
+    );
     each(script, U64_OF_F64, &f64s());
     maxima(script);
     clamps(script);

@@ -114,7 +114,13 @@ pub fn episode(script: &mut Script, random: &mut Random, length: u64) {
     }
 }
 
-fn call(script: &mut Script, random: &mut Random, times: &mut Times, samples: &mut Samples, ids: &Ids) {
+fn call(
+    script: &mut Script,
+    random: &mut Random,
+    times: &mut Times,
+    samples: &mut Samples,
+    ids: &Ids,
+) {
     if random.percent(4) {
         let place = random.below(70);
         script.call(PEERS_SHOW, &[widened(random, place, 6)]);

@@ -53,11 +53,21 @@ pub fn boundary(script: &mut Script) {
     at_limit(script);
     news(script);
     inflation(script);
+    gradual_underflow(script);
 }
 
 fn times(script: &mut Script) {
     let sample = bits(50.0);
-    for time in [1, 0, 2, 1, TIME_LIMIT - 1, TIME_LIMIT + 1, u64::MAX, 1 << 63] {
+    for time in [
+        1,
+        0,
+        2,
+        1,
+        TIME_LIMIT - 1,
+        TIME_LIMIT + 1,
+        u64::MAX,
+        1 << 63,
+    ] {
         script.call(RTT_UPDATE, &[time, sample]);
     }
     for time in [TIME_LIMIT, TIME_LIMIT, TIME_LIMIT - 1, TIME_LIMIT + 1] {
@@ -110,6 +120,14 @@ fn inflation(script: &mut Script) {
     script.call(RTT_UPDATE, &[7, bits(1.0)]);
     script.call(RTT_UPDATE, &[7, bits(9.0)]);
     script.call(RTT_UPDATE, &[7, bits(9.0)]);
+}
+
+/// Subnormal averages: an eighth of the difference is rounded before it is added.
+fn gradual_underflow(script: &mut Script) {
+    script.call(RTT_NEW, &[bits(100.0)]);
+    for sample in [101, 105, 90, 1, 0, 13] {
+        script.call(RTT_UPDATE, &[7, sample]);
+    }
 }
 
 /// Samples of one kind.
@@ -186,7 +204,11 @@ fn call(script: &mut Script, random: &mut Random, times: &mut Times, samples: &m
 }
 
 /// Arguments that are mostly accepted; one in 25 is refused, by one number or two.
-pub fn time_and_sample(random: &mut Random, times: &mut Times, samples: &mut Samples) -> (u64, u64) {
+pub fn time_and_sample(
+    random: &mut Random,
+    times: &mut Times,
+    samples: &mut Samples,
+) -> (u64, u64) {
     let (bad_time, bad_sample) = match random.below(75) {
         0 => (true, false),
         1 => (false, true),

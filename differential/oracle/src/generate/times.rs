@@ -78,7 +78,10 @@ pub fn at_call_limit(
         call(script, random);
     }
     if random.percent(30) {
-        script.call(set_calls, &[random.pick(&[CALL_LIMIT + 1, 1 << 63, u64::MAX])]);
+        script.call(
+            set_calls,
+            &[random.pick(&[CALL_LIMIT + 1, 1 << 63, u64::MAX])],
+        );
         call(script, random);
     }
     script.call(set_calls, &[random.of_bits(39)]);

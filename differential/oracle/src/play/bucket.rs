@@ -73,7 +73,12 @@ impl Bucket {
     }
 
     /// A call at a time: its answer and its result, 0 where it is turned down.
-    fn call(&mut self, time: u64, beyond: bool, step: impl FnOnce(&mut TokenBucket) -> u64) -> (u64, u64) {
+    fn call(
+        &mut self,
+        time: u64,
+        beyond: bool,
+        step: impl FnOnce(&mut TokenBucket) -> u64,
+    ) -> (u64, u64) {
         let answer = refusal::first(&[
             (beyond, refusal::RATE),
             (time > refusal::MAX_TIME, refusal::TIME),

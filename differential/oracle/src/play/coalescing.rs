@@ -25,7 +25,7 @@ impl Bytes {
                 lines.number(self.bytes.len() as u64);
             }
             HASH_BYTES => lines.number(hash_bytes(&self.bytes)),
-            FROM_TOPIC_AND_KEY => key(&self.from_topic_and_key(a), lines),
+            FROM_TOPIC_AND_KEY => key(&self.topic_and_key(a), lines),
             KEYLESS => key(&keyless(&self.bytes), lines),
             KEY_NEW => key(&InstanceKey::new(a, b), lines),
             HASH_IS => lines.number(hash_bytes(&self.bytes) == a),
@@ -33,7 +33,7 @@ impl Bytes {
         }
     }
 
-    fn from_topic_and_key(&self, topic_bytes: u64) -> InstanceKey {
+    fn topic_and_key(&self, topic_bytes: u64) -> InstanceKey {
         let cut = topic_bytes.min(self.bytes.len() as u64) as usize;
         let (topic, key) = self.bytes.split_at(cut);
         match std::str::from_utf8(topic) {

@@ -1,6 +1,6 @@
 //! The settings and their checks.
 
-use crate::congestion::config::{CongestionConfig, ConfigError, EcnMode};
+use crate::congestion::config::{ConfigError, CongestionConfig, EcnMode};
 use crate::line::Lines;
 use crate::operation::*;
 use crate::play::numeric::f32_of;

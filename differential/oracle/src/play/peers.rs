@@ -65,7 +65,10 @@ impl Peers {
             (time > refusal::MAX_TIME, refusal::TIME),
             (self.ledger.used_up(), refusal::CALLS),
             (self.ledger.before_last(time), refusal::EARLIER),
-            (!known && self.ids.len() >= refusal::MAX_PEERS, refusal::FULL),
+            (
+                !known && self.ids.len() >= refusal::MAX_PEERS,
+                refusal::FULL,
+            ),
         ]);
         if answer == refusal::ACCEPTED {
             self.ledger.count_at(time);
@@ -82,7 +85,9 @@ impl Peers {
         let mut digest = DIGEST_START;
         for &id in &self.ids {
             digest = joined(digest, id.into());
-            digest = rtt::state(self.estimator(id)).into_iter().fold(digest, joined);
+            digest = rtt::state(self.estimator(id))
+                .into_iter()
+                .fold(digest, joined);
         }
         digest
     }

@@ -1,0 +1,14 @@
+use Rattle.control.specs.Ecn.{responded}
+use borrow.Author.Needs.{needs}
+use Rattle.control.proofs.ecn.EcnStats.record_ce_response.Statement.{statement}
+use Rattle.control.proofs.ecn.EcnStats.record_ce_response.Tie as tie
+
+increment-requires : tie.Need-increment-requires
+increment-requires c κs = search needs
+
+returns : tie.Need-returns
+unfolding responded
+returns c = rw (← c .increment .ensures)
+
+pub record-ce-response-spec : {M : Type 1} → statement M
+record-ce-response-spec = tie.close (tie.spec increment-requires returns)

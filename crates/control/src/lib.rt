@@ -1,0 +1,3 @@
+// Congestion control: the signals that are counted and averaged.
+pub mod ecn;
+pub mod rtt_estimator;
