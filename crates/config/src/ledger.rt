@@ -51,7 +51,7 @@ impl Ledger {
     pub fn check_counted(self) -> u8
         ensures { λ r. ⌜ r ≡ answerOf (countedChecks self) ⌝ }
     {
-        if MOST_CALLS <= self.calls {
+        if self.calls >= MOST_CALLS {
             refusal::CALLS_USED_UP
         } else {
             refusal::ACCEPTED

@@ -80,7 +80,7 @@ impl EcnCodepoint {
         ensures { λ r. ⌜ r ≡ isEct self ⌝ }
     {
         match self {
-            EcnCodepoint::NotEct => false,
+            EcnCodepoint::NotEct => false, // in no window
             EcnCodepoint::Ect1 => true,
             EcnCodepoint::Ect0 => true,
             EcnCodepoint::Ce => false,

@@ -61,8 +61,9 @@ impl RttEstimator {
             };
         }
         let diff = sample_ms - self.rtt_ms;
+        let rtt_ms = self.rtt_ms + 0.125 * diff;
         RttEstimator {
-            rtt_ms: self.rtt_ms + 0.125 * diff,
+            rtt_ms,
             rtt_min_ms: lesser(sample_ms, self.rtt_min_ms),
             rtt_var_ms: self.rtt_var_ms + 0.25 * (numeric::float::abs_f32(diff) - self.rtt_var_ms),
             samples: numeric::integer::increment(self.samples),

@@ -1,0 +1,133 @@
+-- The settled examples of document 01 that are to be proved, as one table of inputs and results. Definitions only.
+-- A row joins by a line in `table`; a new kind of input by a constructor of `Input` and its clause in `outcome`.
+use Prim.Native.Nat.{ℕ}
+use mathlib.Core.Path.{_≡_}
+use mathlib.Core.Bool.{Bool, true, false}
+use mathlib.Core.List.{List, [], _∷_, _++_}
+use lib.ListN.{replicate}
+use lib.IntN.{pos, negsuc}
+use lib.Ieee.{Float, fin, binary32, ofInt, toBits}
+use Rattle.control.specs.Ecn.{codepointOf, newProcessor, processedTos}
+use Rattle.control.specs.declared.ecn.EcnCodepoint.{EcnCodepoint}
+use Rattle.control.specs.declared.ecn.EcnCodepoint.the-variants.{NotEct, Ect0}
+use Rattle.control.specs.declared.ecn.EcnProcessor.{EcnProcessor}
+use Rattle.control.specs.declared.ecn.Processed.{Processed}
+use Rattle.control.specs.RttEstimator.{newEstimator, updated, rtoOf}
+use Rattle.control.specs.declared.rtt_estimator.RttEstimator.{RttEstimator}
+use Rattle.pacing.specs.Coalescing.{fnv1a}
+use Rattle.pacing.specs.TokenBucket.{made, refilled, tried, told}
+use Rattle.pacing.specs.declared.token_bucket.TokenBucket.{TokenBucket}
+
+-- ---- what a row gives and what it gets
+
+-- a call on a bucket, at a time
+pub data Step : Type 0 where
+  take wait : ℕ → ℕ → Step
+  refill : ℕ → Step
+
+pub data Input : Type 0 where
+  -- a rate, as the nearest f32
+  rate : ℕ → Input
+  -- samples of one peer, in milliseconds, as bit patterns of f32
+  samples : List Float → Input
+  -- TOS bytes of received packets
+  packets : List ℕ → Input
+  -- a TOS byte
+  tos : ℕ → Input
+  -- bytes to hash
+  bytes : List ℕ → Input
+  -- a bucket's rate and capacity, made at time 0, and steps on it
+  bucket : ℕ → ℕ → List Step → Input
+
+-- what a step on a bucket answers, and the tokens that it leaves
+pub data Left : Type 0 where
+  taken : Bool → ℕ → Left
+  waits : ℕ → ℕ → Left
+  refilledTo : ℕ → Left
+
+pub data Result : Type 0 where
+  float : Float → Result
+  -- average, variance and retransmission timeout
+  roundTrip : Float → Float → Float → Result
+  -- whether the last packet signals congestion
+  signals : Bool → Result
+  codepoint : EcnCodepoint → Result
+  hash : ℕ → Result
+  steps : List Left → Result
+
+-- ---- what the definitions give
+
+abbrev sampled : RttEstimator → List Float → RttEstimator
+sampled e [] = e
+sampled e (x ∷ rest) = sampled (updated e 0 x) rest
+
+abbrev shown : RttEstimator → Result
+shown e = roundTrip (e .«rtt_ms») (e .«rtt_var_ms») (rtoOf e)
+
+abbrev received : Processed → List ℕ → Bool
+received p [] = p .signal
+received p (x ∷ rest) = received (processedTos (p .processor) x) rest
+
+-- the bucket after a step, and what the step leaves to see
+abbrev stepped : TokenBucket → Step → TokenBucket
+stepped b (take time n) = tried b time n .bucket
+stepped b (wait time n) = told b time n .bucket
+stepped b (refill time) = refilled b time
+
+abbrev seen : TokenBucket → Step → Left
+seen b (take time n) = taken (tried b time n .taken) (tried b time n .bucket .tokens)
+seen b (wait time n) = waits (told b time n .wait) (told b time n .bucket .tokens)
+seen b (refill time) = refilledTo (refilled b time .tokens)
+
+abbrev walked : TokenBucket → List Step → List Left
+walked b [] = []
+walked b (s ∷ rest) = seen b s ∷ walked (stepped b s) rest
+
+abbrev pub outcome : Input → Result
+outcome (rate n) = float (ofInt binary32 (pos n))
+outcome (samples xs) = shown (sampled (newEstimator (fin false 25 (pos 2))) xs)
+outcome (packets xs) = signals (received (record { processor = newProcessor; signal = false }) xs)
+outcome (tos x) = codepoint (codepointOf x)
+outcome (bytes xs) = hash (fnv1a xs)
+outcome (bucket r n xs) = steps (walked (made 0 r n) xs)
+
+-- ---- the table
+
+pub record Example : Type 0 where
+  pub input : Input
+  pub result : Result
+
+abbrev pub row : Input → Result → Example
+row i r = record { input = i; result = r }
+
+-- m * 2 ^ k, and m / 2, as floats
+abbrev scaled : ℕ → ℕ → Float
+scaled m k = fin false m (pos k)
+
+abbrev halves : ℕ → Float
+halves m = fin false m (negsuc 0)
+
+abbrev pub table : List Example
+table =
+    -- 16,777,217 rounds to 16,777,216 = 2 ^ 24, and 16,777,219 to 16,777,220 = 4,194,305 * 4
+    row (rate 16777217) (float (scaled 1 24))
+    ∷ row (rate 16777219) (float (scaled 4194305 2))
+    -- RTT 100, 200: average 112.5, variance 62.5, `rto` 362.5
+    ∷ row (samples (scaled 25 2 ∷ scaled 25 3 ∷ [])) (roundTrip (halves 225) (halves 125) (halves 725))
+    -- 99 ECT(0) and one CE signal; 100 ECT(0) do not
+    ∷ row (packets (replicate 99 0x02 ++ (0x03 ∷ []))) (signals true)
+    ∷ row (packets (replicate 100 0x02)) (signals false)
+    -- FNV-1a of nothing is its offset
+    ∷ row (bytes []) (hash 0xcbf2_9ce4_8422_2325)
+    -- TOS 02 is ECT(0), FC Not-ECT
+    ∷ row (tos 0x02) (codepoint Ect0)
+    ∷ row (tos 0xfc) (codepoint NotEct)
+    -- bucket 10,000/s, full 1,500: take 1,472, 28 left; 1 ms later 38; 1,472 more waits 143,400,000 ns
+    ∷ row (bucket 10000 1500 (take 0 1472 ∷ refill 1000000 ∷ wait 1000000 1472 ∷ []))
+    (steps (taken true 28 ∷ refilledTo 38 ∷ waits 143400000 38 ∷ []))
+    ∷ []
+
+-- every row's result is what the definitions give for its input
+abbrev pub Settled : List Example → Type 0
+Settled [] = Unit {0}
+Settled (x ∷ rest) = (outcome (x .input) ≡ x .result) × Settled rest
