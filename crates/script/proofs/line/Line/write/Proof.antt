@@ -1,0 +1,17 @@
+-- `write` is safe and ends. The invariant keeps the output's length; the measure is the number of numbers that are left.
+use Prim.Native.Nat.{_-_}
+use mathlib.Core.Path.{_≡_}
+use lib.ListN.{length}
+use borrow.Author.Needs.{needs}
+use Rattle.script.proofs.line.Line.write.Statement.{statement}
+use Rattle.script.proofs.line.Line.write.Tie as tie
+
+abbrev Inv-loop : tie.InvT-loop
+Inv-loop out₀ at numbers count to₀ k₀ out to k = length out ≡ length out₀
+
+abbrev μ-loop : tie.MeasureT-loop
+μ-loop out₀ at numbers count to₀ k₀ out to k = count - k
+
+pub write-spec : {M : Type 1} → statement M
+write-spec = tie.close (tie.spec Inv-loop μ-loop (λ c κs. tt) (λ c. search needs) (λ c. search needs) (λ c. search needs)
+    (λ c κs. tt) (λ c. search needs) (λ c. search needs) (λ c. search needs) (λ c κs. tt) (λ c. search needs) (λ c. tt))

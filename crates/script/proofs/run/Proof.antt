@@ -1,0 +1,15 @@
+-- `run` is safe and ends. The measure is the number of batches that are left; nothing has to hold from turn to turn.
+use Prim.Native.Nat.{_-_}
+use borrow.Author.Needs.{needs}
+use Rattle.script.proofs.run.Statement.{statement}
+use Rattle.script.proofs.run.Tie as tie
+
+abbrev Inv-loop : tie.InvT-loop
+Inv-loop modules₀ bytes₀ input₀ out₀ batches₀ modules bytes input out batches = Unit {0}
+
+abbrev μ-loop : tie.MeasureT-loop
+μ-loop modules₀ bytes₀ input₀ out₀ batches₀ modules bytes input out batches = 4294967296 - batches
+
+pub run-spec : {M : Type 1} → statement M
+run-spec = tie.close (tie.spec Inv-loop μ-loop (λ c κs. tt) (λ c. tt) (λ c κs. tt) (λ c κs. tt) (λ c κs. tt)
+    (λ c κs. tt) (λ c. tt) (λ c. tt) (λ c. search needs) (λ c. search needs) (λ c. tt) (λ c. tt))

@@ -1,0 +1,182 @@
+// The modules that a script plays on, and the operations by suite.
+use crate::bucket_ops;
+use crate::coalescing_ops;
+use crate::coalescing_ops::BUFFER_BYTES;
+use crate::config_ops;
+use crate::ecn_ops;
+use crate::line::LINES_BYTES;
+use crate::line::Line;
+use crate::numeric_ops;
+use crate::peers_ops;
+use crate::rtt_ops;
+use crate::words::BATCH_BYTES;
+use crate::words::Record;
+use crate::words::record_at;
+use config::config::CongestionConfig;
+use control::ecn::EcnProcessorAlone;
+use control::rtt_estimator::PeerRttTrackerAlone;
+use control::rtt_estimator::RttEstimatorAlone;
+use pacing::token_bucket::TokenBucketAlone;
+
+// The suites: an operation's number over 16.
+const NUMERIC: u64 = 1;
+
+const CONFIG: u64 = 2;
+
+const ECN: u64 = 3;
+
+const RTT: u64 = 4;
+
+const PEERS: u64 = 5;
+
+const BUCKET: u64 = 6;
+
+const COALESCING: u64 = 7;
+
+// The byte buffer is lent beside them; what stands here is how many of its bytes are used.
+pub(crate) struct Modules {
+    config: CongestionConfig,
+    ecn: EcnProcessorAlone,
+    rtt: RttEstimatorAlone,
+    peers: PeerRttTrackerAlone,
+    bucket: TokenBucketAlone,
+    buffer_length: usize,
+}
+
+// What a record leaves, and the line that answers it.
+struct Played {
+    modules: Modules,
+    line: Line,
+}
+
+// What a batch leaves, and how many bytes its lines have.
+pub(crate) struct BatchPlayed {
+    pub(crate) modules: Modules,
+    pub(crate) written: usize,
+}
+
+impl Modules {
+    // Before the first record.
+    pub(crate) fn new() -> Modules {
+        let rtt_made = RttEstimatorAlone::new(100.0);
+        let peers_made = PeerRttTrackerAlone::new(100.0);
+        let bucket_made = TokenBucketAlone::new(0, 1, 0);
+        let rtt = rtt_made.alone;
+        let peers = peers_made.alone;
+        let bucket = bucket_made.alone;
+        Modules {
+            config: CongestionConfig::new(),
+            ecn: EcnProcessorAlone::new(),
+            rtt,
+            peers,
+            bucket,
+            buffer_length: 0,
+        }
+    }
+
+    // Plays the first records of a batch and writes their lines.
+    pub(crate) fn play_batch(
+        self,
+        bytes: &mut [u8; BUFFER_BYTES],
+        input: &[u8; BATCH_BYTES],
+        records: usize,
+        out: &mut [u8; LINES_BYTES],
+    ) -> BatchPlayed {
+        let mut modules = self;
+        let mut written: usize = 0;
+        let mut k: usize = 0;
+        while k < records {
+            let played = modules.play(bytes, record_at(input, k));
+            let line = played.line;
+            modules = played.modules;
+            written = line.write(out, written);
+            k += 1;
+        }
+        BatchPlayed { modules, written }
+    }
+
+    fn play(self, bytes: &mut [u8; BUFFER_BYTES], r: Record) -> Played {
+        let suite = r.operation / 16;
+        match suite {
+            NUMERIC => Played {
+                modules: self,
+                line: numeric_ops::play(r),
+            },
+            CONFIG => self.play_config(r),
+            ECN => self.play_ecn(r),
+            RTT => self.play_rtt(r),
+            PEERS => self.play_peers(r),
+            BUCKET => self.play_bucket(r),
+            COALESCING => self.play_coalescing(bytes, r),
+            _ => Played {
+                modules: self,
+                line: Line::new(r.operation),
+            },
+        }
+    }
+
+    fn play_config(mut self, r: Record) -> Played {
+        let played = config_ops::play(self.config, r);
+        let config = played.config;
+        let line = played.line;
+        self.config = config;
+        Played {
+            modules: self,
+            line,
+        }
+    }
+
+    fn play_ecn(mut self, r: Record) -> Played {
+        let played = ecn_ops::play(self.ecn, r);
+        let ecn = played.alone;
+        let line = played.line;
+        self.ecn = ecn;
+        Played {
+            modules: self,
+            line,
+        }
+    }
+
+    fn play_rtt(mut self, r: Record) -> Played {
+        let played = rtt_ops::play(self.rtt, r);
+        let rtt = played.alone;
+        let line = played.line;
+        self.rtt = rtt;
+        Played {
+            modules: self,
+            line,
+        }
+    }
+
+    fn play_peers(mut self, r: Record) -> Played {
+        let played = peers_ops::play(self.peers, r);
+        let peers = played.alone;
+        let line = played.line;
+        self.peers = peers;
+        Played {
+            modules: self,
+            line,
+        }
+    }
+
+    fn play_bucket(mut self, r: Record) -> Played {
+        let played = bucket_ops::play(self.bucket, r);
+        let bucket = played.alone;
+        let line = played.line;
+        self.bucket = bucket;
+        Played {
+            modules: self,
+            line,
+        }
+    }
+
+    fn play_coalescing(mut self, bytes: &mut [u8; BUFFER_BYTES], r: Record) -> Played {
+        let played = coalescing_ops::play(bytes, self.buffer_length, r);
+        let line = played.line;
+        self.buffer_length = played.length;
+        Played {
+            modules: self,
+            line,
+        }
+    }
+}
