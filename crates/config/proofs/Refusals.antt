@@ -1,12 +1,12 @@
 -- Checks one after the other, in the order in which they are listed: what goes before decides, or what comes after does. Assumes nothing.
-use mathlib.Core.Path.{_≡_, refl, sym}
-use mathlib.Core.Bool.{Bool, true, false, cond}
-use mathlib.Core.List.{List, [], _∷_}
 use Prim.Native.Nat.{ℕ, _<_, _^_}
+use mathlib.Core.Bool.{true, false, cond}
+use mathlib.Core.List.{List, [], _∷_}
+use mathlib.Core.Path.{_≡_, refl}
 use native.Mathlib.Omega.{arith}
 use lib.Dec.{ltb, leb}
-use Rattle.config.specs.declared.ledger.Ledger.{Ledger}
 use Rattle.config.specs.Refusal.{Check, when}
+use Rattle.config.specs.declared.ledger.Ledger.{Ledger}
 
 -- the first number that applies, or what follows the checks
 abbrev pub chainOf : List Check → ℕ → ℕ

@@ -5,10 +5,10 @@ use mathlib.Core.List.{List, [], _∷_}
 use lib.Dec.{ltb, leb, eqb}
 use lib.Ieee.{Float, binary32, lt, le, ofBits}
 use Rattle.numeric.specs.Float.{finite}
-use Rattle.config.specs.declared.config.CongestionConfig.{CongestionConfig}
-use Rattle.config.specs.declared.config.ConfigAnswer.{ConfigAnswer}
-use Rattle.config.specs.declared.config.EcnMode.the-variants.{Off, Opportunistic, Mandatory}
 use Rattle.config.specs.Refusal.{Check, when, answerOf, settingsInvalid, settingsBeyond}
+use Rattle.config.specs.declared.config.ConfigAnswer.{ConfigAnswer}
+use Rattle.config.specs.declared.config.CongestionConfig.{CongestionConfig}
+use Rattle.config.specs.declared.config.EcnMode.the-variants.{Off}
 
 abbrev zero32 : Float
 zero32 = ofBits binary32 0

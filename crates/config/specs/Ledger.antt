@@ -2,8 +2,8 @@
 use Prim.Native.Nat.{ℕ, _+_, _^_, min}
 use mathlib.Core.List.{List, [], _∷_}
 use lib.Dec.{ltb, leb}
-use Rattle.config.specs.declared.ledger.Ledger.{Ledger}
 use Rattle.config.specs.Refusal.{Check, when, timeBeyond, callsUsedUp, timeBack}
+use Rattle.config.specs.declared.ledger.Ledger.{Ledger}
 
 abbrev pub opened : ℕ → Ledger
 opened time = record { calls = 0; last = time }

@@ -2,12 +2,12 @@
 use Prim.Native.Nat.{ℕ, _+_, _%_, min}
 use mathlib.Core.Bool.{Bool, true, false, cond}
 use lib.Dec.{leb, eqb}
-use lib.IntN.{pos}
 use lib.Ieee.{binary64, ofInt, ofBits, div, le}
+use lib.IntN.{pos}
 use Rattle.control.specs.declared.ecn.EcnCodepoint.{EcnCodepoint}
 use Rattle.control.specs.declared.ecn.EcnCodepoint.the-variants.{NotEct, Ect1, Ect0, Ce}
-use Rattle.control.specs.declared.ecn.EcnStats.{EcnStats}
 use Rattle.control.specs.declared.ecn.EcnProcessor.{EcnProcessor}
+use Rattle.control.specs.declared.ecn.EcnStats.{EcnStats}
 use Rattle.control.specs.declared.ecn.Processed.{Processed}
 
 -- RFC 3168, section 5, figure 1: the two low bits are 00 Not-ECT, 01 ECT(1), 10 ECT(0), 11 CE

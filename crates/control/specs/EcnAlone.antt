@@ -2,14 +2,14 @@
 use Prim.Native.Nat.{ℕ}
 use mathlib.Core.Bool.{false, cond}
 use lib.Dec.{eqb}
-use Rattle.config.specs.Refusal.{answerOf}
 use Rattle.config.specs.Ledger.{opened, resumed, counted, countedChecks}
+use Rattle.config.specs.Refusal.{answerOf}
 use Rattle.config.specs.declared.ledger.Ledger.{Ledger}
 use Rattle.control.specs.Ecn.{newProcessor, processedTos, processedCe}
-use Rattle.control.specs.declared.ecn.EcnProcessor.{EcnProcessor}
-use Rattle.control.specs.declared.ecn.Processed.{Processed}
-use Rattle.control.specs.declared.ecn.EcnProcessorAlone.{EcnProcessorAlone}
 use Rattle.control.specs.declared.ecn.EcnAnswer.{EcnAnswer}
+use Rattle.control.specs.declared.ecn.EcnProcessor.{EcnProcessor}
+use Rattle.control.specs.declared.ecn.EcnProcessorAlone.{EcnProcessorAlone}
+use Rattle.control.specs.declared.ecn.Processed.{Processed}
 
 abbrev pub aloneOf : Ledger → EcnProcessor → EcnProcessorAlone
 aloneOf l p = record { ledger = l; processor = p }

@@ -1,16 +1,16 @@
 -- Round-trip times (document 01, rtt_estimator.rs; RFC 6298, section 2): f32, alpha 0.125, beta 0.25. Definitions only.
 use Prim.Native.Nat.{ℕ, _+_, min}
-use mathlib.Core.Bool.{Bool, true, false, cond}
+use mathlib.Core.Bool.{Bool, false, cond}
 use mathlib.Core.List.{List}
 use lib.Dec.{ltb, leb, eqb}
-use lib.ListN.{getD, set, replicate}
 use lib.Ieee.{Float, nan, binary32, ofBits, add, sub, mul, div, lt}
+use lib.ListN.{getD, set, replicate}
 use Rattle.numeric.specs.Float.{maxOf, absOf}
 use Rattle.numeric.specs.Search.{first}
 use Rattle.control.specs.declared.rtt_estimator.LastSample.{LastSample}
 use Rattle.control.specs.declared.rtt_estimator.LastSample.the-variants.{Never, At}
-use Rattle.control.specs.declared.rtt_estimator.RttEstimator.{RttEstimator}
 use Rattle.control.specs.declared.rtt_estimator.PeerRttTracker.{PeerRttTracker}
+use Rattle.control.specs.declared.rtt_estimator.RttEstimator.{RttEstimator}
 
 abbrev zero32 : Float
 zero32 = ofBits binary32 0

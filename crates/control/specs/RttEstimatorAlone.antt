@@ -5,16 +5,16 @@ use mathlib.Core.Bool.{Bool, not, cond, _&&_}
 use mathlib.Core.List.{List, [], _∷_}
 use lib.Dec.{eqb}
 use lib.Ieee.{Float, binary32, ofBits, le}
-use Rattle.config.specs.Refusal.{Check, when, answerOf, sampleBeyond, tableFull}
 use Rattle.config.specs.Ledger.{opened, resumed, moved, timedChecks}
+use Rattle.config.specs.Refusal.{Check, when, answerOf, sampleBeyond, tableFull}
 use Rattle.config.specs.declared.ledger.Ledger.{Ledger}
 use Rattle.control.specs.RttEstimator.{newEstimator, updated, newTracker, trackerUpdated, fullFor}
-use Rattle.control.specs.declared.rtt_estimator.RttEstimator.{RttEstimator}
-use Rattle.control.specs.declared.rtt_estimator.RttEstimatorAlone.{RttEstimatorAlone}
-use Rattle.control.specs.declared.rtt_estimator.RttAnswer.{RttAnswer}
+use Rattle.control.specs.declared.rtt_estimator.PeerRttAnswer.{PeerRttAnswer}
 use Rattle.control.specs.declared.rtt_estimator.PeerRttTracker.{PeerRttTracker}
 use Rattle.control.specs.declared.rtt_estimator.PeerRttTrackerAlone.{PeerRttTrackerAlone}
-use Rattle.control.specs.declared.rtt_estimator.PeerRttAnswer.{PeerRttAnswer}
+use Rattle.control.specs.declared.rtt_estimator.RttAnswer.{RttAnswer}
+use Rattle.control.specs.declared.rtt_estimator.RttEstimator.{RttEstimator}
+use Rattle.control.specs.declared.rtt_estimator.RttEstimatorAlone.{RttEstimatorAlone}
 
 -- 0 and 1,000,000 as f32
 abbrev pub leastSample : Float

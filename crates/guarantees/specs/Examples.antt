@@ -1,18 +1,17 @@
 -- The settled examples of document 01 that are to be proved, as one table of inputs and results. Definitions only.
 -- A row joins by a line in `table`; a new kind of input by a constructor of `Input` and its clause in `outcome`.
 use Prim.Native.Nat.{ℕ}
-use mathlib.Core.Path.{_≡_}
 use mathlib.Core.Bool.{Bool, true, false}
 use mathlib.Core.List.{List, [], _∷_, _++_}
-use lib.ListN.{replicate}
+use mathlib.Core.Path.{_≡_}
+use lib.Ieee.{Float, fin, binary32, ofInt}
 use lib.IntN.{pos, negsuc}
-use lib.Ieee.{Float, fin, binary32, ofInt, toBits}
+use lib.ListN.{replicate}
 use Rattle.control.specs.Ecn.{codepointOf, newProcessor, processedTos}
+use Rattle.control.specs.RttEstimator.{newEstimator, updated, rtoOf}
 use Rattle.control.specs.declared.ecn.EcnCodepoint.{EcnCodepoint}
 use Rattle.control.specs.declared.ecn.EcnCodepoint.the-variants.{NotEct, Ect0}
-use Rattle.control.specs.declared.ecn.EcnProcessor.{EcnProcessor}
 use Rattle.control.specs.declared.ecn.Processed.{Processed}
-use Rattle.control.specs.RttEstimator.{newEstimator, updated, rtoOf}
 use Rattle.control.specs.declared.rtt_estimator.RttEstimator.{RttEstimator}
 use Rattle.pacing.specs.Coalescing.{fnv1a}
 use Rattle.pacing.specs.TokenBucket.{made, refilled, tried, told}

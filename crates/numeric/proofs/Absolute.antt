@@ -1,14 +1,14 @@
 -- The absolute value by tests: below zero, zero of either sign, and the rest. The format is a parameter. Assumes nothing.
-use mathlib.Core.Path.{_≡_, refl, sym, ap, _∙_, subst}
-use mathlib.Core.Bool.{Bool, true, false, cond, _&&_, _||_, false≢true}
 use Prim.Native.Nat.{ℕ, zero, suc, _*_, _+_, _^_, _<_, _≤_}
+use mathlib.Core.Bool.{Bool, true, false, _&&_, false≢true}
+use mathlib.Core.Path.{_≡_, refl, sym, ap, _∙_}
 use native.Mathlib.Nat.{mul-one, one-mul, pow-succ', mul-pos, zero-lt-suc}
 use native.Mathlib.Omega.{arith}
-use lib.IntN.{ℤ, pos, negsuc}
-use lib.Dec.{T, ltb, eqb, eqb→eq}
 use borrow.Author.Tests.{ltb-true, ltb-false, eqb-true, eq-eqb}
+use lib.Dec.{T, ltb, eqb, eqb→eq}
 use lib.Ieee.{Float, Format, nan, inf, fin, up, down, lt, eq, neg, fits}
-use lib.Ieee.Fits.{up-pos, down-pos}
+use lib.Ieee.Fits.{up-pos}
+use lib.IntN.{ℤ, pos, negsuc}
 use Rattle.numeric.specs.Float.{absOf}
 
 abbrev pub nought : Float

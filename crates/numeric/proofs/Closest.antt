@@ -1,15 +1,15 @@
 -- A fraction to the nearest whole number, from its quotient by half the divisor: the last digit of that quotient rounds, and what is left below it breaks ties.
 -- And the digits of a float times 5 ^ 9 over a power of two, as `nearest_scaled` works them out. Assumes nothing.
-use mathlib.Core.Path.{_≡_, refl, sym, ap, _∙_, subst}
-use mathlib.Core.Bool.{Bool, true, false, not, cond}
 use Prim.Native.Nat.{ℕ, suc, _+_, _-_, _*_, _/_, _%_, _^_, _≤_, _<_, compare, Ordering, Ordering·lt, Ordering·eq, Ordering·gt}
-use native.Mathlib.Nat.{mul-comm, mul-assoc, mul-left-comm, mul-pos, mod-lt, div-div-eq-div-mul, div-le-self}
+use mathlib.Core.Bool.{not}
+use mathlib.Core.Path.{_≡_, refl, sym, ap, _∙_, subst}
+use native.Mathlib.Nat.{mul-comm, mul-pos, mod-lt, div-div-eq-div-mul, div-le-self}
 use native.Mathlib.Omega.{arith}
 use lib.Arith.{lt-of-le-ne, mod-mul}
 use lib.Dec.{T, isLe, isEq, eqb, leb→le, nleb→lt, eqb→eq, eqb-refl}
-use lib.Pow.{pow-add, pow-pos}
 use lib.Ieee.{nearest}
-use lib.Ieee.Nearest.{closest, closest-same}
+use lib.Ieee.Nearest.{closest}
+use lib.Pow.{pow-add, pow-pos}
 
 -- ---- what `compare` says
 abbrev pub Cmp : Ordering → ℕ → ℕ → Type 0

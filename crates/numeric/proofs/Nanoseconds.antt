@@ -1,20 +1,20 @@
 -- Seconds in nanoseconds: 10 ^ 9 is 5 ^ 9 * 2 ^ 9, so x * 10 ^ 9 is the digits of x times 5 ^ 9, over a power of two. Assumes nothing.
-use mathlib.Core.Path.{_≡_, refl, sym, ap, _∙_, subst}
-use mathlib.Core.Bool.{Bool, true, false, not, cond}
 use Prim.Native.Nat.{ℕ, suc, _+_, _-_, _*_, _/_, _%_, _^_, _≤_, _<_, compare}
-use native.Mathlib.Nat.{le-of-eq, mul-comm, mul-assoc, mul-left-comm, mul-right-comm, mul-one, one-mul, div-eq-of-lt, mod-eq-of-lt, eq-of-mul-eq-mul-right, lt-of-not-le}
+use mathlib.Core.Bool.{true, false, not}
+use mathlib.Core.Path.{_≡_, refl, sym, ap, _∙_, subst}
+use native.Mathlib.Nat.{mul-assoc, mul-right-comm, mul-one, one-mul, div-eq-of-lt, mod-eq-of-lt, eq-of-mul-eq-mul-right}
 use native.Mathlib.Omega.{arith}
 use borrow.Author.Tests.{lt-ltb, le-ltb}
-use lib.IntN.{pos, negsuc}
 use lib.Dec.{T, ltb, eqb, nltb→le, lit≤}
-use lib.Pow.{pow-add, pow-pos}
-use lib.Ieee.{Float, nan, inf, fin, binary64, hid, up, down, fits, lt, le, eq, toBits, nearest}
+use lib.Ieee.{Float, nan, inf, fin, binary64, hid, up, down, fits, lt, le, eq, toBits}
 use lib.Ieee.Fits.{down-pos}
 use lib.Ieee.Nearest.{closest, closest-same}
 use lib.Ieee.Positive.{num, den, positive, den-pos, above-of-le}
+use lib.IntN.{negsuc}
+use lib.Pow.{pow-add, pow-pos}
 use Rattle.numeric.specs.Duration.{nanosOf}
-use Rattle.numeric.proofs.Truncation.{Within, two-to, neither, b, q, j, v, field, q-lt, lower, upper}
 use Rattle.numeric.proofs.Closest.{cmp, less}
+use Rattle.numeric.proofs.Truncation.{Within, two-to, neither, b, q, j, v, field, lower, upper}
 
 abbrev pub least : Float
 least = fin false 1 (negsuc 30)
@@ -40,9 +40,6 @@ module _ (x : Float) (F : T (fits binary64 x)) (i : Within 31 32 x) where
 
   e-is : e ≡ suc jj
   e-is = field binary64 31 32 (lit≤ tt) x F i
-
-  pub digits-lt : digits < 9007199254740992
-  digits-lt = q-lt binary64 31 32 (lit≤ tt) x F i
 
   pub e-ge : 992 ≤ e
   e-ge = go e jj e-is (lower binary64 31 32 (lit≤ tt) x F i)

@@ -1,9 +1,9 @@
 -- Bit patterns and NaN, with the format as a parameter. Assumes nothing.
-use mathlib.Core.Path.{_≡_, refl, sym, ap, _∙_, subst}
-use mathlib.Core.Bool.{Bool, true, false, not, cond, _&&_, _||_, Bool·beq, true≢false, false≢true}
 use Prim.Native.Nat.{ℕ, _*_, _%_, _≤_, _<_}
-use lib.Dec.{T, eqb, eqb-refl}
+use mathlib.Core.Bool.{Bool, true, false, not, Bool·beq, true≢false, false≢true}
+use mathlib.Core.Path.{_≡_, refl, sym, _∙_, subst}
 use borrow.Author.Tests.{lt-ltb, le-ltb}
+use lib.Dec.{T, eqb, eqb-refl}
 use lib.Ieee.{Float, nan, inf, fin, Format, hid, ones, top, up, down, lt, eq, isNan, ofBits, nanBits}
 use lib.Ieee.Bits.{nanBits-is, nanBits-above, is-true}
 use Rattle.numeric.specs.Float.{finite}

@@ -1,6 +1,6 @@
 -- Products of numbers in two halves, with the half's size as a parameter. Assumes nothing.
-use mathlib.Core.Path.{_≡_, refl, sym, ap, _∙_, subst⁻¹}
-use Prim.Native.Nat.{ℕ, _+_, _*_, _/_, _%_, _^_, _≤_, _<_}
+use Prim.Native.Nat.{ℕ, _+_, _*_, _/_, _%_, _^_, _<_}
+use mathlib.Core.Path.{_≡_, sym, ap, _∙_, subst⁻¹}
 use native.Mathlib.Nat.{le-of-lt, lt-of-le-of-lt, mul-le-mul-left, mul-lt-mul-of-pos-right, mul-comm, mul-assoc, mul-left-comm, add-assoc, add-mul, mul-add, add-mod, div-add-mod', mul-add-mod-self-right}
 use lib.Pow.{pow-add, pow-pos}
 

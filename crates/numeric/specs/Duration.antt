@@ -1,10 +1,10 @@
 -- Seconds and nanoseconds as Rust's Duration converts them. Definitions only.
 use Prim.Native.Nat.{ℕ, _*_, _^_, _/_, _%_}
 use mathlib.Core.Bool.{true, false, cond}
-use lib.IntN.{pos}
 use lib.Dec.{ltb}
 use lib.Ieee.{Float, nan, inf, fin, up, down, binary64, ofInt, add, div, ofBits}
 use lib.Ieee.Nearest.{closest}
+use lib.IntN.{pos}
 
 -- `Duration::as_secs_f64` of n nanoseconds: the whole seconds as an f64, plus the rest as an f64 over 10^9 (0x41cdcd6500000000)
 abbrev pub secondsOf : ℕ → Float

@@ -1,15 +1,15 @@
 -- A bucket left at rate 0 is credited nothing, and the wait told is the largest u64 (document 01, token_bucket.rs): what the definitions give. Assumes nothing.
-use mathlib.Core.Path.{_≡_, refl, sym, ap, _∙_, subst}
-use mathlib.Core.Bool.{Bool, true, false, cond, true≢false}
 use Prim.Native.Nat.{ℕ, zero, suc, _+_, _-_, _*_, _/_, _^_, _≤_, _<_, min}
+use mathlib.Core.Bool.{Bool, true, false, true≢false}
+use mathlib.Core.Path.{_≡_, refl, sym, ap, _∙_}
 use native.Mathlib.Nat.{mul-zero, zero-mul, mul-pos, zero-div, zero-lt-suc}
 use native.Mathlib.Omega.{arith}
 use borrow.Author.Tests.{ne-eqb}
+use lib.Ieee.{Float, nan, inf, fin, Format, binary64, prec, low, emax, up, down, unlike, round, mul, div, ofInt, toUnsigned}
+use lib.Ieee.Exact.{HasValue, round-exact}
+use lib.Ieee.Fits.{down-pos}
 use lib.IntN.{pos}
 use lib.Pow.{pow-pos}
-use lib.Ieee.{Float, nan, inf, fin, Format, binary64, prec, low, emax, up, down, unlike, round, mul, div, ofInt, toUnsigned}
-use lib.Ieee.Fits.{up-pos, down-pos}
-use lib.Ieee.Exact.{HasValue, round-exact}
 use Rattle.numeric.proofs.Nearest.{ofInt-value}
 use Rattle.numeric.specs.Duration.{secondsOf, nanosOf}
 use Rattle.pacing.specs.TokenBucket.{credit, waitOf}

@@ -1,13 +1,13 @@
 -- The token bucket (document 01, token_bucket.rs): credit, refill, and what each step leaves. Definitions only.
 use Prim.Native.Nat.{ℕ, _+_, _-_, min}
-use mathlib.Core.Bool.{Bool, true, false, cond}
+use mathlib.Core.Bool.{true, false, cond}
 use lib.Dec.{ltb, leb}
-use lib.IntN.{pos}
 use lib.Ieee.{binary64, ofInt, toUnsigned, mul, div}
+use lib.IntN.{pos}
 use Rattle.numeric.specs.Duration.{secondsOf, nanosOf}
 use Rattle.pacing.specs.declared.token_bucket.TokenBucket.{TokenBucket}
-use Rattle.pacing.specs.declared.token_bucket.Tried.{Tried}
 use Rattle.pacing.specs.declared.token_bucket.Told.{Told}
+use Rattle.pacing.specs.declared.token_bucket.Tried.{Tried}
 
 -- "Credit is the f64 of elapsed seconds times the rate, cut to an integer."
 unfoldable pub credit : ℕ → ℕ → ℕ

@@ -1,20 +1,20 @@
 -- A bucket used alone: the numbers that may apply to each call, and what it answers and leaves
 -- (document 01, "Domain": "A bucket alone: rate at least 1, capacity and byte counts at most 1,000,000,000"). Definitions only.
 use Prim.Native.Nat.{ℕ}
-use mathlib.Core.Bool.{Bool, true, false, cond, _||_}
+use mathlib.Core.Bool.{Bool, false, cond, _||_}
 use mathlib.Core.List.{List, [], _∷_}
 use lib.Dec.{ltb, eqb}
-use Rattle.config.specs.Refusal.{Check, when, answerOf, rateBeyond}
 use Rattle.config.specs.Ledger.{opened, resumed, counted, moved, timeCheck, countedChecks, timedChecks}
+use Rattle.config.specs.Refusal.{Check, when, answerOf, rateBeyond}
 use Rattle.config.specs.declared.ledger.Ledger.{Ledger}
 use Rattle.pacing.specs.TokenBucket.{made, refilled, tried, forced, rated, resized, told}
 use Rattle.pacing.specs.declared.token_bucket.TokenBucket.{TokenBucket}
-use Rattle.pacing.specs.declared.token_bucket.Tried.{Tried}
-use Rattle.pacing.specs.declared.token_bucket.Told.{Told}
 use Rattle.pacing.specs.declared.token_bucket.TokenBucketAlone.{TokenBucketAlone}
 use Rattle.pacing.specs.declared.token_bucket.TokenBucketLeft.{TokenBucketLeft}
-use Rattle.pacing.specs.declared.token_bucket.TokenBucketTried.{TokenBucketTried}
 use Rattle.pacing.specs.declared.token_bucket.TokenBucketTold.{TokenBucketTold}
+use Rattle.pacing.specs.declared.token_bucket.TokenBucketTried.{TokenBucketTried}
+use Rattle.pacing.specs.declared.token_bucket.Told.{Told}
+use Rattle.pacing.specs.declared.token_bucket.Tried.{Tried}
 
 -- a rate outside 1 to 1,000,000,000
 abbrev pub rateOut : ℕ → Bool

@@ -1,5 +1,5 @@
-use Rattle.config.specs.Config.{limitBeyond}
 use borrow.Author.Tests.{le-ltb, lt-ltb}
+use Rattle.config.specs.Config.{limitBeyond}
 use Rattle.config.proofs.config.limit_beyond.Statement.{statement}
 use Rattle.config.proofs.config.limit_beyond.Tie as tie
 

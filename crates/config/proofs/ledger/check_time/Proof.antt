@@ -1,5 +1,5 @@
-use Rattle.config.specs.Refusal.{answerOf}
 use borrow.Author.Tests.{le-ltb, lt-ltb}
+use Rattle.config.specs.Refusal.{answerOf}
 use Rattle.config.proofs.ledger.check_time.Statement.{statement}
 use Rattle.config.proofs.ledger.check_time.Tie as tie
 

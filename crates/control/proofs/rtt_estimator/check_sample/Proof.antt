@@ -1,5 +1,5 @@
-use Rattle.config.specs.Refusal.{answerOf}
 use borrow.Author.Needs.{needs}
+use Rattle.config.specs.Refusal.{answerOf}
 use Rattle.control.proofs.rtt_estimator.check_sample.Statement.{statement}
 use Rattle.control.proofs.rtt_estimator.check_sample.Tie as tie
 

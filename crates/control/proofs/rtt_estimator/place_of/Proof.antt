@@ -1,14 +1,14 @@
-use Rattle.control.specs.RttEstimator.{placeOf, knownOf}
-use Rattle.numeric.proofs.Search.{first-none, first-is}
-use lib.ListN.{getD}
-use lib.Dec.{eqb}
-use borrow.Author.Tests.{eq-eqb, ne-eqb}
-use borrow.Author.Count.{below-none, below-more}
-use borrow.Author.Needs.{needs}
-use native.Mathlib.Omega.{arith}
+use Prim.Native.Nat.{ℕ, _≤_, _<_, _-_}
 use mathlib.Core.Bool.{false}
 use mathlib.Core.Path.{_≡_, sym, _∙_}
-use Prim.Native.Nat.{ℕ, _≤_, _<_, _-_}
+use native.Mathlib.Omega.{arith}
+use borrow.Author.Count.{below-none, below-more}
+use borrow.Author.Needs.{needs}
+use borrow.Author.Tests.{eq-eqb, ne-eqb}
+use lib.Dec.{eqb}
+use lib.ListN.{getD}
+use Rattle.numeric.proofs.Search.{first-none, first-is}
+use Rattle.control.specs.RttEstimator.{placeOf, knownOf}
 use Rattle.control.proofs.rtt_estimator.place_of.Statement.{statement}
 use Rattle.control.proofs.rtt_estimator.place_of.Tie as tie
 

@@ -1,11 +1,11 @@
 -- Between 2 ^ -31 and 2 ^ 32 seconds the bit pattern's digits are scaled; below that nothing is left, and above it the largest is told. Assumes nothing.
-use borrow.Author.Needs.{needs}
-use native.Mathlib.Omega.{arith}
 use mathlib.Core.Path.{_∙_}
+use native.Mathlib.Omega.{arith}
+use borrow.Author.Needs.{needs}
 use lib.Dec.{T}
 use lib.Ieee.{Float, binary64, fits, le, ofBits}
-use Rattle.numeric.proofs.Truncation.{Within, within-small, yes, no, no-nan}
 use Rattle.numeric.proofs.Nanoseconds.{least, e-le, nanos-are, too-small, too-long}
+use Rattle.numeric.proofs.Truncation.{Within, within-small, yes, no, no-nan}
 use Rattle.numeric.proofs.duration.from_secs_f64.Statement.{statement}
 use Rattle.numeric.proofs.duration.from_secs_f64.Tie as tie
 

@@ -1,8 +1,8 @@
 -- The last digit of `halves` rounds, and what is left below it breaks ties: the lemmas of proofs/Closest.antt. Assumes nothing.
-use borrow.Author.Needs.{needs}
-use native.Mathlib.Omega.{arith}
-use mathlib.Core.Path.{_≡_}
 use Prim.Native.Nat.{ℕ, _+_, _*_, _/_, _%_, _^_, _<_}
+use mathlib.Core.Path.{_≡_}
+use native.Mathlib.Omega.{arith}
+use borrow.Author.Needs.{needs}
 use Rattle.numeric.proofs.Closest.{highPart, pos-h, small, even-bit, odd-bit, tie-bit}
 use Rattle.numeric.proofs.duration.nearest_scaled.Statement.{statement}
 use Rattle.numeric.proofs.duration.nearest_scaled.Tie as tie

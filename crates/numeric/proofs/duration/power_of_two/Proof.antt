@@ -1,9 +1,9 @@
-use lib.Pow.{pow-lt}
-use native.Mathlib.Omega.{arith}
-use native.Mathlib.Nat.{one-mul, mod-eq-of-lt, mod-lt}
 use Prim.Native.Nat.{ℕ, _%_, _^_}
 use mathlib.Core.Path.{ap, _∙_}
+use native.Mathlib.Nat.{one-mul, mod-eq-of-lt, mod-lt}
+use native.Mathlib.Omega.{arith}
 use borrow.Author.Needs.{needs}
+use lib.Pow.{pow-lt}
 use Rattle.numeric.proofs.duration.power_of_two.Statement.{statement}
 use Rattle.numeric.proofs.duration.power_of_two.Tie as tie
 

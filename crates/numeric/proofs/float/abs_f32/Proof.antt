@@ -1,7 +1,7 @@
-use Rattle.numeric.proofs.Absolute.{negative, zeros, others}
-use lib.Ieee.{binary32, ofBits}
-use lib.Dec.{T}
 use mathlib.Core.Path.{subst, sym}
+use lib.Dec.{T}
+use lib.Ieee.{binary32, ofBits}
+use Rattle.numeric.proofs.Absolute.{negative, zeros, others}
 use Rattle.numeric.proofs.float.abs_f32.Statement.{statement}
 use Rattle.numeric.proofs.float.abs_f32.Tie as tie
 

@@ -1,9 +1,9 @@
-use Rattle.numeric.proofs.Patterns.{itself, is-a-nan}
-use lib.Ieee.{Float, binary32, toBits}
-use lib.Dec.{T}
 use mathlib.Core.Bool.{Bool, not}
 use mathlib.Core.Path.{subst, sym}
 use borrow.Author.Needs.{needs}
+use lib.Dec.{T}
+use lib.Ieee.{toBits}
+use Rattle.numeric.proofs.Patterns.{itself, is-a-nan}
 use Rattle.numeric.proofs.float.bits_of_f32.Statement.{statement}
 use Rattle.numeric.proofs.float.bits_of_f32.Tie as tie
 

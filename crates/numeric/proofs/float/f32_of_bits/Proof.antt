@@ -1,7 +1,6 @@
-use Rattle.numeric.proofs.Patterns.{nan-pattern, no-nan-pattern}
-use mathlib.Core.Path.{_∙_}
-use lib.Ieee.{binary32, div, ofBits}
 use borrow.Author.Needs.{needs}
+use lib.Ieee.{binary32, div, ofBits}
+use Rattle.numeric.proofs.Patterns.{nan-pattern, no-nan-pattern}
 use Rattle.numeric.proofs.float.f32_of_bits.Statement.{statement}
 use Rattle.numeric.proofs.float.f32_of_bits.Tie as tie
 

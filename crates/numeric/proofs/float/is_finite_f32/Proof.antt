@@ -1,5 +1,5 @@
-use Rattle.numeric.proofs.Patterns.{finite-above, not-below}
 use lib.Ieee.{nanBits, ofBits}
+use Rattle.numeric.proofs.Patterns.{finite-above, not-below}
 use Rattle.numeric.proofs.float.is_finite_f32.Statement.{statement}
 use Rattle.numeric.proofs.float.is_finite_f32.Tie as tie
 

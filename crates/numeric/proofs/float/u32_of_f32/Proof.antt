@@ -1,9 +1,8 @@
--- `own::u32_of_f32` meets its contract: `proofs/Cut.antt` says what the shifted digits of x's bit pattern are. Assumes nothing.
-use borrow.Author.Needs.{needs}
-use mathlib.Core.Path.{_≡_, sym, subst, ap, _∙_}
-use mathlib.Core.Bool.{not}
-use Prim.Native.Nat.{ℕ, _%_, _^_, _<_}
+-- The digits of the bit pattern, shifted: proofs/Truncation.antt says what they are, and what holds outside that range. Assumes nothing.
+use Prim.Native.Nat.{ℕ, _%_, _^_}
+use mathlib.Core.Path.{ap, _∙_}
 use native.Mathlib.Nat.{lt-of-lt-of-le, mod-eq-of-lt}
+use borrow.Author.Needs.{needs}
 use lib.Dec.{T, lit≤}
 use lib.Ieee.{Float, binary32, fits, le, lt, ofBits}
 use lib.Ieee.Casts.{toUnsigned-lt}

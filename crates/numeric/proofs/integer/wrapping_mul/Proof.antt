@@ -1,7 +1,6 @@
-use mathlib.Core.Path.{_∙_, sym}
-use native.Mathlib.Omega.{arith}
-use Rattle.numeric.proofs.Products.{product-below, wrapped}
+use mathlib.Core.Path.{_∙_}
 use borrow.Author.Needs.{needs}
+use Rattle.numeric.proofs.Products.{product-below, wrapped}
 use Rattle.numeric.proofs.integer.wrapping_mul.Statement.{statement}
 use Rattle.numeric.proofs.integer.wrapping_mul.Tie as tie
 

@@ -1,11 +1,10 @@
-use Rattle.pacing.specs.Coalescing.{joinedAll, fnv1a}
-use lib.Seq.{drop-cons}
-use lib.ListN.{length, drop, drop-of-length-le}
-use borrow.Author.Needs.{needs}
+use Prim.Native.Nat.{_≤_, _-_}
+use mathlib.Core.Path.{_≡_, refl}
 use native.Mathlib.Numerals.{add-one}
-use native.Mathlib.Omega.{arith}
-use mathlib.Core.Path.{_≡_, refl, sym, _∙_, ap}
-use Prim.Native.Nat.{ℕ, _≤_, _<_, _-_}
+use borrow.Author.Needs.{needs}
+use lib.ListN.{length, drop, drop-of-length-le}
+use lib.Seq.{drop-cons}
+use Rattle.pacing.specs.Coalescing.{joinedAll, fnv1a}
 use Rattle.pacing.proofs.coalescing.hash_bytes.Statement.{statement}
 use Rattle.pacing.proofs.coalescing.hash_bytes.Tie as tie
 

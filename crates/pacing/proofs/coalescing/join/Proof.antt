@@ -1,5 +1,5 @@
-use Rattle.pacing.specs.Coalescing.{joined}
 use borrow.Author.Needs.{needs}
+use Rattle.pacing.specs.Coalescing.{joined}
 use Rattle.pacing.proofs.coalescing.join.Statement.{statement}
 use Rattle.pacing.proofs.coalescing.join.Tie as tie
 

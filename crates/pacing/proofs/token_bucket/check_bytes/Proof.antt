@@ -1,6 +1,6 @@
-use Rattle.config.specs.Refusal.{answerOf}
-use borrow.Author.Tests.{le-ltb, lt-ltb}
 use borrow.Author.Needs.{needs}
+use borrow.Author.Tests.{le-ltb, lt-ltb}
+use Rattle.config.specs.Refusal.{answerOf}
 use Rattle.pacing.proofs.token_bucket.check_bytes.Statement.{statement}
 use Rattle.pacing.proofs.token_bucket.check_bytes.Tie as tie
 

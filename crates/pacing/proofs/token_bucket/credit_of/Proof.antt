@@ -1,5 +1,5 @@
-use Rattle.pacing.specs.TokenBucket.{credit}
 use borrow.Author.Needs.{needs}
+use Rattle.pacing.specs.TokenBucket.{credit}
 use Rattle.pacing.proofs.token_bucket.credit_of.Statement.{statement}
 use Rattle.pacing.proofs.token_bucket.credit_of.Tie as tie
 

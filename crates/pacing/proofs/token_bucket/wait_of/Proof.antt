@@ -1,5 +1,5 @@
-use Rattle.pacing.specs.TokenBucket.{waitOf}
 use borrow.Author.Needs.{needs}
+use Rattle.pacing.specs.TokenBucket.{waitOf}
 use Rattle.pacing.proofs.token_bucket.wait_of.Statement.{statement}
 use Rattle.pacing.proofs.token_bucket.wait_of.Tie as tie
 

@@ -1,7 +1,7 @@
-use Rattle.config.specs.Refusal.{answerOf}
-use Rattle.config.specs.Config.{checkedBy}
-use borrow.Author.Tests.{eq-eqb, ne-eqb}
 use borrow.Author.Needs.{needs}
+use borrow.Author.Tests.{ne-eqb}
+use Rattle.config.specs.Config.{checkedBy}
+use Rattle.config.specs.Refusal.{answerOf}
 use Rattle.config.proofs.config.CongestionConfig.check.Statement.{statement}
 use Rattle.config.proofs.config.CongestionConfig.check.Tie as tie
 

@@ -1,5 +1,5 @@
-use Rattle.config.specs.Config.{floatsBeyond}
 use borrow.Author.Needs.{needs}
+use Rattle.config.specs.Config.{floatsBeyond}
 use Rattle.config.proofs.config.CongestionConfig.floats_beyond.Statement.{statement}
 use Rattle.config.proofs.config.CongestionConfig.floats_beyond.Tie as tie
 

@@ -1,5 +1,5 @@
-use Rattle.config.specs.Config.{queuesBeyond}
 use borrow.Author.Needs.{needs}
+use Rattle.config.specs.Config.{queuesBeyond}
 use Rattle.config.proofs.config.CongestionConfig.queues_beyond.Statement.{statement}
 use Rattle.config.proofs.config.CongestionConfig.queues_beyond.Tie as tie
 

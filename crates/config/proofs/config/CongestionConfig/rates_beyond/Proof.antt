@@ -1,5 +1,5 @@
-use Rattle.config.specs.Config.{ratesBeyond}
 use borrow.Author.Tests.{le-ltb, lt-ltb}
+use Rattle.config.specs.Config.{ratesBeyond}
 use Rattle.config.proofs.config.CongestionConfig.rates_beyond.Statement.{statement}
 use Rattle.config.proofs.config.CongestionConfig.rates_beyond.Tie as tie
 

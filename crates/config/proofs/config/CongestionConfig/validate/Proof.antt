@@ -1,6 +1,6 @@
-use Rattle.config.specs.Config.{failedCheck}
-use borrow.Author.Tests.{le-leb, le-ltb, lt-leb, lt-ltb}
 use borrow.Author.Needs.{needs}
+use borrow.Author.Tests.{le-leb, le-ltb, lt-leb, lt-ltb}
+use Rattle.config.specs.Config.{failedCheck}
 use Rattle.config.proofs.config.CongestionConfig.validate.Statement.{statement}
 use Rattle.config.proofs.config.CongestionConfig.validate.Tie as tie
 

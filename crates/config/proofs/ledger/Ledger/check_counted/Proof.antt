@@ -1,5 +1,5 @@
-use Rattle.config.specs.Refusal.{answerOf}
 use borrow.Author.Tests.{le-leb, lt-leb}
+use Rattle.config.specs.Refusal.{answerOf}
 use Rattle.config.proofs.ledger.Ledger.check_counted.Statement.{statement}
 use Rattle.config.proofs.ledger.Ledger.check_counted.Tie as tie
 

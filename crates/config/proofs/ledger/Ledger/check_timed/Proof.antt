@@ -1,5 +1,5 @@
-use Rattle.config.specs.Refusal.{answerOf}
 use borrow.Author.Tests.{le-leb, le-ltb, lt-leb, lt-ltb}
+use Rattle.config.specs.Refusal.{answerOf}
 use Rattle.config.proofs.ledger.Ledger.check_timed.Statement.{statement}
 use Rattle.config.proofs.ledger.Ledger.check_timed.Tie as tie
 

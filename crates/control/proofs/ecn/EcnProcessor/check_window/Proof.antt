@@ -1,5 +1,5 @@
-use Rattle.control.specs.Ecn.{windowSignals}
 use borrow.Author.Needs.{needs}
+use Rattle.control.specs.Ecn.{windowSignals}
 use Rattle.control.proofs.ecn.EcnProcessor.check_window.Statement.{statement}
 use Rattle.control.proofs.ecn.EcnProcessor.check_window.Tie as tie
 

@@ -1,5 +1,5 @@
-use Rattle.control.specs.Ecn.{closed}
 use borrow.Author.Needs.{needs}
+use Rattle.control.specs.Ecn.{closed}
 use Rattle.control.proofs.ecn.EcnProcessor.close_window.Statement.{statement}
 use Rattle.control.proofs.ecn.EcnProcessor.close_window.Tie as tie
 

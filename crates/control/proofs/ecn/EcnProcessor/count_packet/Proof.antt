@@ -1,5 +1,5 @@
-use Rattle.control.specs.Ecn.{counted}
 use borrow.Author.Needs.{needs}
+use Rattle.control.specs.Ecn.{counted}
 use Rattle.control.proofs.ecn.EcnProcessor.count_packet.Statement.{statement}
 use Rattle.control.proofs.ecn.EcnProcessor.count_packet.Tie as tie
 

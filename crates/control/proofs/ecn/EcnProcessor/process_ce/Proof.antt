@@ -1,5 +1,5 @@
-use Rattle.control.specs.Ecn.{processedCe}
 use borrow.Author.Needs.{needs}
+use Rattle.control.specs.Ecn.{processedCe}
 use Rattle.control.proofs.ecn.EcnProcessor.process_ce.Statement.{statement}
 use Rattle.control.proofs.ecn.EcnProcessor.process_ce.Tie as tie
 

@@ -1,6 +1,6 @@
-use Rattle.control.specs.Ecn.{processedTos}
-use borrow.Author.Tests.{le-leb, lt-leb}
 use borrow.Author.Needs.{needs}
+use borrow.Author.Tests.{le-leb, lt-leb}
+use Rattle.control.specs.Ecn.{processedTos}
 use Rattle.control.proofs.ecn.EcnProcessor.process_tos.Statement.{statement}
 use Rattle.control.proofs.ecn.EcnProcessor.process_tos.Tie as tie
 

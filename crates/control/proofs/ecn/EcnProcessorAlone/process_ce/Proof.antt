@@ -1,6 +1,6 @@
-use Rattle.control.specs.EcnAlone.{ceAlone}
-use borrow.Author.Tests.{eq-eqb, ne-eqb}
 use borrow.Author.Needs.{needs}
+use borrow.Author.Tests.{eq-eqb, ne-eqb}
+use Rattle.control.specs.EcnAlone.{ceAlone}
 use Rattle.control.proofs.ecn.EcnProcessorAlone.process_ce.Statement.{statement}
 use Rattle.control.proofs.ecn.EcnProcessorAlone.process_ce.Tie as tie
 

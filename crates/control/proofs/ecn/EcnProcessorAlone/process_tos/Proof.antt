@@ -1,6 +1,6 @@
-use Rattle.control.specs.EcnAlone.{tosAlone}
-use borrow.Author.Tests.{eq-eqb, ne-eqb}
 use borrow.Author.Needs.{needs}
+use borrow.Author.Tests.{eq-eqb, ne-eqb}
+use Rattle.control.specs.EcnAlone.{tosAlone}
 use Rattle.control.proofs.ecn.EcnProcessorAlone.process_tos.Statement.{statement}
 use Rattle.control.proofs.ecn.EcnProcessorAlone.process_tos.Tie as tie
 

@@ -1,5 +1,5 @@
-use Rattle.control.specs.Ecn.{responded}
 use borrow.Author.Needs.{needs}
+use Rattle.control.specs.Ecn.{responded}
 use Rattle.control.proofs.ecn.EcnStats.record_ce_response.Statement.{statement}
 use Rattle.control.proofs.ecn.EcnStats.record_ce_response.Tie as tie
 

@@ -1,5 +1,5 @@
-use Rattle.control.specs.Ecn.{recorded}
 use borrow.Author.Needs.{needs}
+use Rattle.control.specs.Ecn.{recorded}
 use Rattle.control.proofs.ecn.EcnStats.record_packet.Statement.{statement}
 use Rattle.control.proofs.ecn.EcnStats.record_packet.Tie as tie
 

@@ -1,12 +1,12 @@
-use Rattle.control.specs.RttEstimator.{anyInflated, inflatedAt, knownOf}
-use Rattle.numeric.proofs.Search.{first-none, first-is}
-use borrow.Author.Tests.{lt-ltb, le-ltb}
-use borrow.Author.Count.{below-none, below-more}
-use borrow.Author.Needs.{needs}
-use native.Mathlib.Omega.{arith}
+use Prim.Native.Nat.{ℕ, _≤_, _<_, _-_}
 use mathlib.Core.Bool.{false}
 use mathlib.Core.Path.{_≡_, sym, _∙_}
-use Prim.Native.Nat.{ℕ, _≤_, _<_, _-_}
+use native.Mathlib.Omega.{arith}
+use borrow.Author.Count.{below-none, below-more}
+use borrow.Author.Needs.{needs}
+use borrow.Author.Tests.{lt-ltb, le-ltb}
+use Rattle.numeric.proofs.Search.{first-none, first-is}
+use Rattle.control.specs.RttEstimator.{anyInflated, inflatedAt, knownOf}
 use Rattle.control.proofs.rtt_estimator.PeerRttTracker.any_inflated.Statement.{statement}
 use Rattle.control.proofs.rtt_estimator.PeerRttTracker.any_inflated.Tie as tie
 

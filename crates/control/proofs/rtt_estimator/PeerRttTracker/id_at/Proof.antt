@@ -1,5 +1,5 @@
-use borrow.Author.Tests.{le-ltb, lt-ltb}
 use borrow.Author.Needs.{needs}
+use borrow.Author.Tests.{le-ltb, lt-ltb}
 use Rattle.control.proofs.rtt_estimator.PeerRttTracker.id_at.Statement.{statement}
 use Rattle.control.proofs.rtt_estimator.PeerRttTracker.id_at.Tie as tie
 

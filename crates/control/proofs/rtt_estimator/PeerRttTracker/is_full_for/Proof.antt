@@ -1,6 +1,6 @@
-use Rattle.control.specs.RttEstimator.{fullFor}
-use borrow.Author.Tests.{le-ltb, lt-ltb}
 use borrow.Author.Needs.{needs}
+use borrow.Author.Tests.{le-ltb, lt-ltb}
+use Rattle.control.specs.RttEstimator.{fullFor}
 use Rattle.control.proofs.rtt_estimator.PeerRttTracker.is_full_for.Statement.{statement}
 use Rattle.control.proofs.rtt_estimator.PeerRttTracker.is_full_for.Tie as tie
 

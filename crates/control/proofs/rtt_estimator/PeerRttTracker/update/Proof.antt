@@ -1,6 +1,6 @@
-use Rattle.control.specs.RttEstimator.{trackerUpdated}
-use borrow.Author.Tests.{le-ltb, lt-ltb}
 use borrow.Author.Needs.{needs}
+use borrow.Author.Tests.{le-ltb, lt-ltb}
+use Rattle.control.specs.RttEstimator.{trackerUpdated}
 use Rattle.control.proofs.rtt_estimator.PeerRttTracker.update.Statement.{statement}
 use Rattle.control.proofs.rtt_estimator.PeerRttTracker.update.Tie as tie
 

@@ -1,16 +1,14 @@
-use Rattle.control.specs.RttEstimatorAlone.{sampleOut}
-use Rattle.config.proofs.Refusals.{Numbered, chain-on, chain-stop, timedChain}
-use Rattle.config.specs.declared.ledger.Ledger.{Ledger}
-use Rattle.config.specs.Refusal.{Check, when, answerOf}
-use lib.Ieee.{Float}
-use native.Mathlib.Omega.{arith}
 use Prim.Native.Nat.{ℕ}
 use mathlib.Core.List.{List, _∷_}
-use mathlib.Core.Path.{_≡_, sym, _∙_}
+use mathlib.Core.Path.{sym, _∙_}
+use native.Mathlib.Omega.{arith}
 use borrow.Author.Needs.{needs}
-use Rattle.control.proofs.rtt_estimator.PeerRttTrackerAlone.check_peer.Statement.{
-  statement,
-}
+use lib.Ieee.{Float}
+use Rattle.config.proofs.Refusals.{Numbered, chain-on, chain-stop, timedChain}
+use Rattle.config.specs.Refusal.{Check, when, answerOf}
+use Rattle.config.specs.declared.ledger.Ledger.{Ledger}
+use Rattle.control.specs.RttEstimatorAlone.{sampleOut}
+use Rattle.control.proofs.rtt_estimator.PeerRttTrackerAlone.check_peer.Statement.{statement}
 use Rattle.control.proofs.rtt_estimator.PeerRttTrackerAlone.check_peer.Tie as tie
 
 -- the checks before the last one, in document 01's order

@@ -1,6 +1,6 @@
+use borrow.Author.Needs.{needs}
 use Rattle.config.specs.Refusal.{answerOf}
 use Rattle.control.specs.RttEstimatorAlone.{newTrackerAlone}
-use borrow.Author.Needs.{needs}
 use Rattle.control.proofs.rtt_estimator.PeerRttTrackerAlone.new.Statement.{statement}
 use Rattle.control.proofs.rtt_estimator.PeerRttTrackerAlone.new.Tie as tie
 

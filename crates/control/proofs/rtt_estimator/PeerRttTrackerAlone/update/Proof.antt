@@ -1,6 +1,6 @@
-use Rattle.control.specs.RttEstimatorAlone.{trackerUpdatedAlone}
-use borrow.Author.Tests.{eq-eqb, ne-eqb}
 use borrow.Author.Needs.{needs}
+use borrow.Author.Tests.{eq-eqb, ne-eqb}
+use Rattle.control.specs.RttEstimatorAlone.{trackerUpdatedAlone}
 use Rattle.control.proofs.rtt_estimator.PeerRttTrackerAlone.update.Statement.{statement}
 use Rattle.control.proofs.rtt_estimator.PeerRttTrackerAlone.update.Tie as tie
 

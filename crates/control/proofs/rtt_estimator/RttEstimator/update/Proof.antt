@@ -1,6 +1,6 @@
-use Rattle.control.specs.RttEstimator.{updated}
-use borrow.Author.Tests.{eq-eqb, ne-eqb}
 use borrow.Author.Needs.{needs}
+use borrow.Author.Tests.{eq-eqb, ne-eqb}
+use Rattle.control.specs.RttEstimator.{updated}
 use Rattle.control.proofs.rtt_estimator.RttEstimator.update.Statement.{statement}
 use Rattle.control.proofs.rtt_estimator.RttEstimator.update.Tie as tie
 

@@ -1,6 +1,6 @@
-use Rattle.control.specs.RttEstimatorAlone.{updatedAlone}
-use borrow.Author.Tests.{eq-eqb, ne-eqb}
 use borrow.Author.Needs.{needs}
+use borrow.Author.Tests.{eq-eqb, ne-eqb}
+use Rattle.control.specs.RttEstimatorAlone.{updatedAlone}
 use Rattle.control.proofs.rtt_estimator.RttEstimatorAlone.update.Statement.{statement}
 use Rattle.control.proofs.rtt_estimator.RttEstimatorAlone.update.Tie as tie
 

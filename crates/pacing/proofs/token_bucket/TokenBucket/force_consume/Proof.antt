@@ -1,5 +1,5 @@
-use Rattle.pacing.specs.TokenBucket.{forced}
 use borrow.Author.Needs.{needs}
+use Rattle.pacing.specs.TokenBucket.{forced}
 use Rattle.pacing.proofs.token_bucket.TokenBucket.force_consume.Statement.{statement}
 use Rattle.pacing.proofs.token_bucket.TokenBucket.force_consume.Tie as tie
 

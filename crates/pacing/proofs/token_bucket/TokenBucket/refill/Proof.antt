@@ -1,6 +1,6 @@
-use Rattle.pacing.specs.TokenBucket.{refilled}
-use borrow.Author.Tests.{le-ltb, lt-ltb}
 use borrow.Author.Needs.{needs}
+use borrow.Author.Tests.{le-ltb, lt-ltb}
+use Rattle.pacing.specs.TokenBucket.{refilled}
 use Rattle.pacing.proofs.token_bucket.TokenBucket.refill.Statement.{statement}
 use Rattle.pacing.proofs.token_bucket.TokenBucket.refill.Tie as tie
 

@@ -1,5 +1,5 @@
-use Rattle.pacing.specs.TokenBucket.{resized}
 use borrow.Author.Needs.{needs}
+use Rattle.pacing.specs.TokenBucket.{resized}
 use Rattle.pacing.proofs.token_bucket.TokenBucket.set_capacity.Statement.{statement}
 use Rattle.pacing.proofs.token_bucket.TokenBucket.set_capacity.Tie as tie
 

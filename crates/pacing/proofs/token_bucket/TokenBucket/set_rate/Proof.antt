@@ -1,5 +1,5 @@
-use Rattle.pacing.specs.TokenBucket.{rated}
 use borrow.Author.Needs.{needs}
+use Rattle.pacing.specs.TokenBucket.{rated}
 use Rattle.pacing.proofs.token_bucket.TokenBucket.set_rate.Statement.{statement}
 use Rattle.pacing.proofs.token_bucket.TokenBucket.set_rate.Tie as tie
 

@@ -1,9 +1,7 @@
-use Rattle.pacing.specs.TokenBucket.{told}
-use borrow.Author.Tests.{le-leb, lt-leb}
 use borrow.Author.Needs.{needs}
-use Rattle.pacing.proofs.token_bucket.TokenBucket.time_until_available.Statement.{
-  statement,
-}
+use borrow.Author.Tests.{le-leb, lt-leb}
+use Rattle.pacing.specs.TokenBucket.{told}
+use Rattle.pacing.proofs.token_bucket.TokenBucket.time_until_available.Statement.{statement}
 use Rattle.pacing.proofs.token_bucket.TokenBucket.time_until_available.Tie as tie
 
 refill-requires : tie.Need-refill-requires

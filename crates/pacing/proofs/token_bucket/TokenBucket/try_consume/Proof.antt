@@ -1,6 +1,6 @@
-use Rattle.pacing.specs.TokenBucket.{tried}
-use borrow.Author.Tests.{le-leb, lt-leb}
 use borrow.Author.Needs.{needs}
+use borrow.Author.Tests.{le-leb, lt-leb}
+use Rattle.pacing.specs.TokenBucket.{tried}
 use Rattle.pacing.proofs.token_bucket.TokenBucket.try_consume.Statement.{statement}
 use Rattle.pacing.proofs.token_bucket.TokenBucket.try_consume.Tie as tie
 

@@ -1,6 +1,6 @@
-use Rattle.pacing.specs.TokenBucketAlone.{madeAlone}
-use borrow.Author.Tests.{eq-eqb, ne-eqb}
 use borrow.Author.Needs.{needs}
+use borrow.Author.Tests.{eq-eqb, ne-eqb}
+use Rattle.pacing.specs.TokenBucketAlone.{madeAlone}
 use Rattle.pacing.proofs.token_bucket.TokenBucketAlone.new.Statement.{statement}
 use Rattle.pacing.proofs.token_bucket.TokenBucketAlone.new.Tie as tie
 

@@ -1,6 +1,6 @@
-use Rattle.pacing.specs.TokenBucketAlone.{refilledAlone}
-use borrow.Author.Tests.{eq-eqb, ne-eqb}
 use borrow.Author.Needs.{needs}
+use borrow.Author.Tests.{eq-eqb, ne-eqb}
+use Rattle.pacing.specs.TokenBucketAlone.{refilledAlone}
 use Rattle.pacing.proofs.token_bucket.TokenBucketAlone.refill.Statement.{statement}
 use Rattle.pacing.proofs.token_bucket.TokenBucketAlone.refill.Tie as tie
 

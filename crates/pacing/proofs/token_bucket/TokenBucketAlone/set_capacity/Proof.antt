@@ -1,6 +1,6 @@
-use Rattle.pacing.specs.TokenBucketAlone.{resizedAlone}
-use borrow.Author.Tests.{eq-eqb, ne-eqb}
 use borrow.Author.Needs.{needs}
+use borrow.Author.Tests.{eq-eqb, ne-eqb}
+use Rattle.pacing.specs.TokenBucketAlone.{resizedAlone}
 use Rattle.pacing.proofs.token_bucket.TokenBucketAlone.set_capacity.Statement.{statement}
 use Rattle.pacing.proofs.token_bucket.TokenBucketAlone.set_capacity.Tie as tie
 

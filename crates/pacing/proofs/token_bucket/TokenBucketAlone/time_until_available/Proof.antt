@@ -1,9 +1,7 @@
-use Rattle.pacing.specs.TokenBucketAlone.{toldAlone}
-use borrow.Author.Tests.{eq-eqb, ne-eqb}
 use borrow.Author.Needs.{needs}
-use Rattle.pacing.proofs.token_bucket.TokenBucketAlone.time_until_available.Statement.{
-  statement,
-}
+use borrow.Author.Tests.{eq-eqb, ne-eqb}
+use Rattle.pacing.specs.TokenBucketAlone.{toldAlone}
+use Rattle.pacing.proofs.token_bucket.TokenBucketAlone.time_until_available.Statement.{statement}
 use Rattle.pacing.proofs.token_bucket.TokenBucketAlone.time_until_available.Tie as tie
 
 check-bytes-requires : tie.Need-check-bytes-requires

@@ -1,6 +1,6 @@
-use Rattle.pacing.specs.TokenBucketAlone.{triedAlone}
-use borrow.Author.Tests.{eq-eqb, ne-eqb}
 use borrow.Author.Needs.{needs}
+use borrow.Author.Tests.{eq-eqb, ne-eqb}
+use Rattle.pacing.specs.TokenBucketAlone.{triedAlone}
 use Rattle.pacing.proofs.token_bucket.TokenBucketAlone.try_consume.Statement.{statement}
 use Rattle.pacing.proofs.token_bucket.TokenBucketAlone.try_consume.Tie as tie
 

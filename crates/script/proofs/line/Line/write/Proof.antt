@@ -1,8 +1,8 @@
 -- `write` is safe and ends. The invariant keeps the output's length; the measure is the number of numbers that are left.
 use Prim.Native.Nat.{_-_}
 use mathlib.Core.Path.{_≡_}
-use lib.ListN.{length}
 use borrow.Author.Needs.{needs}
+use lib.ListN.{length}
 use Rattle.script.proofs.line.Line.write.Statement.{statement}
 use Rattle.script.proofs.line.Line.write.Tie as tie
 
