@@ -1,7 +1,7 @@
 // Explicit congestion notification: codepoints, counts, and the window of marks that signals congestion.
 ghost use mathlib.Core.Path.{_≡_};
 ghost use Rattle.control.specs.Ecn.{codepointOf, tosOf, isEct, isCe, noStats, recorded, responded, newProcessor, counted, windowSignals, closed, processedTos, processedCe};
-ghost use Rattle.control.specs.EcnAlone.{newAlone, resumedAlone, tosAlone, ceAlone};
+ghost use Rattle.control.specs.EcnAlone.{newAlone, resumedAlone, answeredBy, tosAlone, ceAlone};
 use config::ledger::Ledger;
 
 // The two low bits of the TOS byte (RFC 3168, section 5).
@@ -316,29 +316,20 @@ impl EcnProcessorAlone {
         ensures { λ r. ⌜ r ≡ tosAlone self tos ⌝ }
     {
         let answer = self.ledger.check_counted();
-        if answer != 0 {
-            return EcnAnswer {
-                answer,
-                signal: false,
-                alone: self,
-            };
-        }
-        let processed = self.processor.process_tos(tos);
-        let processor = processed.processor;
-        EcnAnswer {
-            answer: 0,
-            signal: processed.signal,
-            alone: EcnProcessorAlone {
-                ledger: self.ledger.counted(),
-                processor,
-            },
-        }
+        self.answered_by(answer, self.processor.process_tos(tos))
     }
 
     pub fn process_ce(self) -> EcnAnswer
         ensures { λ r. ⌜ r ≡ ceAlone self ⌝ }
     {
         let answer = self.ledger.check_counted();
+        self.answered_by(answer, self.processor.process_ce())
+    }
+
+    // What an accepted call gives and leaves, or the number and the old state; the step is pure, so nothing is lost where the call is turned down.
+    fn answered_by(self, answer: u8, processed: Processed) -> EcnAnswer
+        ensures { λ r. ⌜ r ≡ answeredBy answer self processed ⌝ }
+    {
         if answer != 0 {
             return EcnAnswer {
                 answer,
@@ -346,7 +337,6 @@ impl EcnProcessorAlone {
                 alone: self,
             };
         }
-        let processed = self.processor.process_ce();
         let processor = processed.processor;
         EcnAnswer {
             answer: 0,

@@ -2,7 +2,7 @@
 ghost use mathlib.Core.Path.{_≡_};
 ghost use Rattle.config.specs.Refusal.{answerOf};
 ghost use Rattle.pacing.specs.TokenBucket.{credit, waitOf, made, refilled, tried, forced, rated, resized, told};
-ghost use Rattle.pacing.specs.TokenBucketAlone.{makingChecks, byteChecks, rateChecks, capacityChecks, zeroBucket, madeAlone, resumedAlone, refilledAlone, triedAlone, forcedAlone, ratedAlone, resizedAlone, toldAlone};
+ghost use Rattle.pacing.specs.TokenBucketAlone.{makingChecks, byteChecks, rateChecks, capacityChecks, aloneOf, leftBy, madeAlone, resumedAlone, refilledAlone, triedAlone, forcedAlone, ratedAlone, resizedAlone, toldAlone};
 use config::ledger::Ledger;
 use config::refusal;
 
@@ -280,19 +280,7 @@ impl TokenBucketAlone {
         ensures { λ r. ⌜ r ≡ refilledAlone self time ⌝ }
     {
         let answer = self.ledger.check_timed(time);
-        if answer != 0 {
-            return TokenBucketLeft {
-                answer,
-                alone: self,
-            };
-        }
-        TokenBucketLeft {
-            answer: 0,
-            alone: TokenBucketAlone {
-                ledger: self.ledger.moved(time),
-                bucket: self.bucket.refill(time),
-            },
-        }
+        self.left_by(answer, self.ledger.moved(time), self.bucket.refill(time))
     }
 
     pub fn try_consume(self, time: u64, bytes: u64) -> TokenBucketTried
@@ -322,38 +310,22 @@ impl TokenBucketAlone {
         ensures { λ r. ⌜ r ≡ forcedAlone self time bytes ⌝ }
     {
         let answer = check_bytes(self.ledger, time, bytes);
-        if answer != 0 {
-            return TokenBucketLeft {
-                answer,
-                alone: self,
-            };
-        }
-        TokenBucketLeft {
-            answer: 0,
-            alone: TokenBucketAlone {
-                ledger: self.ledger.moved(time),
-                bucket: self.bucket.force_consume(time, bytes),
-            },
-        }
+        self.left_by(
+            answer,
+            self.ledger.moved(time),
+            self.bucket.force_consume(time, bytes),
+        )
     }
 
     pub fn set_rate(self, time: u64, rate_bps: u32) -> TokenBucketLeft
         ensures { λ r. ⌜ r ≡ ratedAlone self time «rate_bps» ⌝ }
     {
         let answer = check_rate(self.ledger, time, rate_bps);
-        if answer != 0 {
-            return TokenBucketLeft {
-                answer,
-                alone: self,
-            };
-        }
-        TokenBucketLeft {
-            answer: 0,
-            alone: TokenBucketAlone {
-                ledger: self.ledger.moved(time),
-                bucket: self.bucket.set_rate(time, rate_bps),
-            },
-        }
+        self.left_by(
+            answer,
+            self.ledger.moved(time),
+            self.bucket.set_rate(time, rate_bps),
+        )
     }
 
     // Takes no time, as the Rust's reads no clock.
@@ -361,19 +333,11 @@ impl TokenBucketAlone {
         ensures { λ r. ⌜ r ≡ resizedAlone self capacity ⌝ }
     {
         let answer = check_capacity(self.ledger, capacity);
-        if answer != 0 {
-            return TokenBucketLeft {
-                answer,
-                alone: self,
-            };
-        }
-        TokenBucketLeft {
-            answer: 0,
-            alone: TokenBucketAlone {
-                ledger: self.ledger.counted(),
-                bucket: self.bucket.set_capacity(capacity),
-            },
-        }
+        self.left_by(
+            answer,
+            self.ledger.counted(),
+            self.bucket.set_capacity(capacity),
+        )
     }
 
     pub fn time_until_available(self, time: u64, bytes: u64) -> TokenBucketTold
@@ -396,6 +360,22 @@ impl TokenBucketAlone {
                 ledger: self.ledger.moved(time),
                 bucket,
             },
+        }
+    }
+
+    // What an accepted call leaves, or the number and the old state; the step is pure, so nothing is lost where the call is turned down.
+    fn left_by(self, answer: u8, ledger: Ledger, bucket: TokenBucket) -> TokenBucketLeft
+        ensures { λ r. ⌜ r ≡ leftBy answer (aloneOf ledger bucket) self ⌝ }
+    {
+        if answer != 0 {
+            return TokenBucketLeft {
+                answer,
+                alone: self,
+            };
+        }
+        TokenBucketLeft {
+            answer: 0,
+            alone: TokenBucketAlone { ledger, bucket },
         }
     }
 
