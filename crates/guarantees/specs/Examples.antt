@@ -27,7 +27,7 @@ pub data Step : Type 0 where
 pub data Input : Type 0 where
   -- a rate, as the nearest f32
   rate : ℕ → Input
-  -- samples of one peer, in milliseconds, as bit patterns of f32
+  -- samples of one peer, in milliseconds, to an estimator whose default is 100
   samples : List Float → Input
   -- TOS bytes of received packets
   packets : List ℕ → Input

@@ -83,7 +83,7 @@ pub fn bits_of_f32(x: f32) -> u32
     if x == x { f32::to_bits(x) } else { 0x7fc0_0000 }
 }
 
-// The f64 of a bit pattern.
+// The f64 of a bit pattern, for the scripts of the differential runs.
 pub fn f64_of_bits(bits: u64) -> f64
     ensures { λ r. ⌜ r ≡ Ieee.ofBits binary64 bits ⌝ }
 {
@@ -94,7 +94,7 @@ pub fn f64_of_bits(bits: u64) -> f64
     }
 }
 
-// The bit pattern of an f64, for output.
+// The bit pattern of an f64, for the same.
 pub fn bits_of_f64(x: f64) -> u64
     ensures { λ r. ⌜ r ≡ Ieee.toBits binary64 x ⌝ }
 {
