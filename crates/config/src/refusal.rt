@@ -1,5 +1,8 @@
 // The numbers of document 01 under which a call is turned down; 0 is an accepted call.
 // Their order is `order` of specs/Refusal.antt: input first, by number, then the state in the order written here.
+ghost use mathlib.Core.Path.{_≡_};
+ghost use lib.ListN.{getD};
+ghost use Rattle.config.specs.Refusal.{order, accepted};
 
 pub const ACCEPTED: u8 = 0;
 
@@ -37,3 +40,28 @@ pub const QUEUE_FULL: u8 = 12;
 
 // The largest rate, bucket capacity and byte count of the domain.
 pub const LARGEST_RATE: u32 = 1000000000;
+
+const ORDER: [u8; 15] = [
+    SETTINGS_INVALID,
+    SETTINGS_BEYOND,
+    RECORD_TOO_LONG,
+    SAMPLE_BEYOND,
+    KIND_UNKNOWN,
+    RATE_BEYOND,
+    TIME_BEYOND,
+    BUFFER_TOO_SHORT,
+    CALLS_USED_UP,
+    TIME_BACK,
+    DISABLED,
+    WRITER_UNKNOWN,
+    WRITER_KNOWN,
+    TABLE_FULL,
+    QUEUE_FULL,
+];
+
+// The numbers in the order in which they are looked at, from place 0, for a host that lists them; 0 beyond the last.
+pub fn in_order(place: usize) -> u8
+    ensures { λ r. ⌜ r ≡ getD order place accepted ⌝ }
+{
+    if place < 15 { ORDER[place] } else { ACCEPTED }
+}
