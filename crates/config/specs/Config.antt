@@ -9,6 +9,14 @@ use Rattle.config.specs.Refusal.{Check, when, answerOf, settingsInvalid,
 use Rattle.config.specs.declared.config.ConfigAnswer.{ConfigAnswer}
 use Rattle.config.specs.declared.config.CongestionConfig.{CongestionConfig}
 use Rattle.config.specs.declared.config.EcnMode.the-variants.{Off}
+use Rattle.config.specs.declared.config.Priority.{Priority}
+use Rattle.config.specs.declared.config.Priority.the-variants.{P0, P1, P2}
+
+-- "class (0 P0 .., 1 P1 .., 2 P2 ..)"
+abbrev pub classNumber : Priority → ℕ
+classNumber P0 = 0
+classNumber P1 = 1
+classNumber P2 = 2
 
 abbrev zero32 : Float
 zero32 = ofBits binary32 0

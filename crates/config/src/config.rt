@@ -1,6 +1,7 @@
 // The settings of congestion control and their checks.
 ghost use mathlib.Core.Path.{_≡_};
-ghost use Rattle.config.specs.Config.{defaults, withoutControl, failedCheck, notInOpenClosed, notInOpen, notInClosed, ratesBeyond, floatsBeyond, queuesBeyond, limitBeyond, checkedBy};
+ghost use Prim.Native.Nat.{_<_};
+ghost use Rattle.config.specs.Config.{classNumber, defaults, withoutControl, failedCheck, notInOpenClosed, notInOpen, notInClosed, ratesBeyond, floatsBeyond, queuesBeyond, limitBeyond, checkedBy};
 use crate::refusal;
 use numeric::float::is_finite_f32;
 
@@ -9,6 +10,27 @@ pub enum EcnMode {
     Off,
     Opportunistic,
     Mandatory,
+}
+
+// The class of a record and of a writer: urgent, normal, background.
+pub enum Priority {
+    P0,
+    P1,
+    P2,
+}
+
+impl Priority {
+    // The digit that stands for the class.
+    pub fn number(self) -> u8
+        ensures { λ r. ⌜ r ≡ classNumber self ⌝ }
+        ensures { λ r. ⌜ r < 3 ⌝ }
+    {
+        match self {
+            Priority::P0 => 0,
+            Priority::P1 => 1,
+            Priority::P2 => 2,
+        }
+    }
 }
 
 // The fields that ported calls read, under the Rust's names.

@@ -6,9 +6,9 @@ ghost use Rattle.config.specs.Ledger.{opened, resumed, counted, moved, t
 use crate::refusal;
 
 // The latest time of the domain, 2^62, and the most accepted calls, 2^40.
-const LATEST: u64 = 0x4000_0000_0000_0000;
+pub const LATEST: u64 = 0x4000_0000_0000_0000;
 
-const MOST_CALLS: u64 = 0x100_0000_0000;
+pub const MOST_CALLS: u64 = 0x100_0000_0000;
 
 pub struct Ledger {
     calls: u64,

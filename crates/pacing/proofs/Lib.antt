@@ -1,1 +1,2 @@
 pub mod RateZero
+pub mod Pools

@@ -1,3 +1,9 @@
 pub mod Coalescing
+pub mod CoalescingQueueAlone
+pub mod Entries
+pub mod Pool
+pub mod Ring
 pub mod TokenBucket
 pub mod TokenBucketAlone
+pub mod WriterPacer
+pub mod WriterPacerAlone

@@ -1,0 +1,44 @@
+use Rattle.pacing.specs.Coalescing.{exchanged}
+use borrow.Author.Needs.{needs}
+use Rattle.pacing.proofs.coalescing.exchange.Statement.{statement}
+use Rattle.pacing.proofs.coalescing.exchange.Tie as tie
+use Rattle.pacing.proofs.coalescing.exchange.Reads as reads
+use Rattle.pacing.proofs.coalescing.exchange.Lts as lts
+use Rattle.numeric.proofs.integer.bounded_add.Reads as bounded-add-reads
+use Rattle.numeric.proofs.integer.saturating_sub.Reads as saturating-sub-reads
+use Rattle.pacing.proofs.entries.get.Reads as get-reads
+use Rattle.pacing.proofs.entries.put.Reads as put-reads
+
+add-place : tie.Need-add-place
+add-place c = search needs
+
+get-requires : tie.Need-get-requires
+get-requires c κs = search needs
+
+saturating-sub-requires : tie.Need-saturating-sub-requires
+saturating-sub-requires c κs = search needs
+
+bounded-add-requires : tie.Need-bounded-add-requires
+bounded-add-requires c κs = search needs
+
+put-requires : tie.Need-put-requires
+put-requires c κs = search needs
+
+same-length : tie.Need-same-length
+same-length c = search needs
+
+returns : tie.Need-returns
+unfolding exchanged
+returns c = rw (← c .before .before .before .before .before .before .get .ensures, ← c .before .before .before .before .before .saturating-sub .ensures, ← c .before .before .before .bounded-add .ensures, ← c .before .before .put .ensures)
+
+pub exchange-spec : {M : Type 1} → statement M
+exchange-spec =
+    tie.close
+    (tie.spec
+    add-place
+    get-requires
+    saturating-sub-requires
+    bounded-add-requires
+    put-requires
+    same-length
+    returns)

@@ -1,0 +1,29 @@
+use Rattle.pacing.specs.Entries.{counted}
+use borrow.Author.Needs.{needs}
+use Rattle.pacing.proofs.entries.count.Statement.{statement}
+use Rattle.pacing.proofs.entries.count.Tie as tie
+use Rattle.pacing.proofs.entries.count.Reads as reads
+use Rattle.pacing.proofs.entries.count.Lts as lts
+use Rattle.numeric.proofs.integer.bounded_add.Reads as bounded-add-reads
+use Rattle.pacing.proofs.entries.get.Reads as get-reads
+use Rattle.pacing.proofs.entries.put.Reads as put-reads
+
+get-requires : tie.Need-get-requires
+get-requires c κs = search needs
+
+bounded-add-requires : tie.Need-bounded-add-requires
+bounded-add-requires c κs = search needs
+
+put-requires : tie.Need-put-requires
+put-requires c κs = search needs
+
+same-length : tie.Need-same-length
+same-length c = search needs
+
+returns : tie.Need-returns
+unfolding counted
+returns c = rw (← c .before .before .before .before .before .get .ensures, ← c .before .before .before .before .bounded-add .ensures, ← c .before .before .put .ensures)
+
+pub count-spec : {M : Type 1} → statement M
+count-spec =
+    tie.close (tie.spec get-requires bounded-add-requires put-requires same-length returns)

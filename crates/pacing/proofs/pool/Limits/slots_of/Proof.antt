@@ -1,0 +1,25 @@
+use native.Mathlib.Omega.{arith}
+use native.Mathlib.Nat.{mul-le-mul}
+use Prim.Native.Nat.{_≤_}
+use borrow.Author.Needs.{needs}
+use Rattle.pacing.proofs.pool.Limits.slots_of.Statement.{statement}
+use Rattle.pacing.proofs.pool.Limits.slots_of.Tie as tie
+use Rattle.pacing.proofs.pool.Limits.slots_of.Reads as reads
+use Rattle.pacing.proofs.pool.Limits.slots_of.Lts as lts
+use Rattle.pacing.proofs.pool.Limits.slots.Reads as slots-reads
+
+slots-requires : tie.Need-slots-requires
+slots-requires c κs = search needs
+
+mul-result : tie.Need-mul-result
+mul-result c = let h : c .before .args .pacers ≤ 255 = omega arith in
+    let k : c .slots .result ≤ 200000 = omega arith in
+    omega (arith, mul-le-mul h k)
+
+returns : tie.Need-returns
+returns c = let h : c .before .args .pacers ≤ 255 = omega arith in
+    let k : c .slots .result ≤ 200000 = omega arith in
+    (rw (← c .slots .ensures .0), omega (arith, mul-le-mul h k))
+
+pub slots-of-spec : {M : Type 1} → statement M
+slots-of-spec = tie.close (tie.spec slots-requires mul-result returns)

@@ -1,0 +1,25 @@
+use mathlib.Core.Path.{_≡_}
+use Prim.Native.Nat.{_-_}
+use native.Mathlib.Omega.{arith}
+use borrow.Author.Tests.{le-ltb, lt-ltb}
+use borrow.Author.Needs.{needs}
+use Rattle.pacing.proofs.ring.Ring.pop.Statement.{statement}
+use Rattle.pacing.proofs.ring.Ring.pop.Tie as tie
+use Rattle.pacing.proofs.ring.Ring.pop.Reads as reads
+use Rattle.pacing.proofs.ring.Ring.pop.Lts as lts
+use Rattle.pacing.proofs.ring.Ring.slot_at.Reads as slot-at-reads
+
+slot-at-requires : tie.Need-slot-at-requires
+slot-at-requires c κs = search needs
+
+sub-t9 : tie.Need-sub-t9
+sub-t9 c = search needs
+
+returns : tie.Need-returns
+returns c = simp (c .before .slot-at .ensures)
+
+returns-2 : tie.Need-returns-2
+returns-2 c = let z : c .before .before .args .self .count ≡ 0 = omega arith in simp (c .before .slot-at .ensures, z)
+
+pub pop-spec : {M : Type 1} → statement M
+pop-spec = tie.close (tie.spec slot-at-requires sub-t9 returns returns-2)

@@ -1,0 +1,45 @@
+use Rattle.pacing.specs.WriterPacer.{attemptP0}
+use borrow.Author.Needs.{needs}
+use Rattle.pacing.proofs.writer_pacer.PacerCore.send_p0.Statement.{statement}
+use Rattle.pacing.proofs.writer_pacer.PacerCore.send_p0.Tie as tie
+use Rattle.pacing.proofs.writer_pacer.PacerCore.send_p0.Reads as reads
+use Rattle.pacing.proofs.writer_pacer.PacerCore.send_p0.Lts as lts
+use Rattle.pacing.proofs.token_bucket.TokenBucket.force_consume.Reads as force-consume-reads
+use Rattle.pacing.proofs.token_bucket.TokenBucket.try_consume.Reads as try-consume-reads
+use Rattle.pacing.proofs.writer_pacer.PacerCore.gone.Reads as gone-reads
+use Rattle.pacing.proofs.writer_pacer.front.Reads as front-reads
+
+front-requires : tie.Need-front-requires
+front-requires c κs = search needs
+
+try-consume-requires : tie.Need-try-consume-requires
+try-consume-requires c κs = search needs
+
+gone-requires : tie.Need-gone-requires
+gone-requires c κs = search needs
+
+force-consume-requires : tie.Need-force-consume-requires
+force-consume-requires c κs = search needs
+
+gone-requires-2 : tie.Need-gone-requires-2
+gone-requires-2 c κs = search needs
+
+returns : tie.Need-returns
+unfolding attemptP0
+returns c = rw (← c .before .before .before .before .front .ensures, ← c .before .before .before .try-consume .ensures, c .before .if1 .taken, ← c .gone .ensures)
+
+returns-2 : tie.Need-returns-2
+unfolding attemptP0
+returns-2 c = rw (← c .before .before .before .before .before .front .ensures, ← c .before .before .before .before .try-consume .ensures, c .before .before .if1 .left, ← c .before .force-consume .ensures, ← c .gone2 .ensures)
+
+pub send-p0-spec : {M : Type 1} → statement M
+send-p0-spec =
+    tie.close
+    (tie.spec
+    front-requires
+    try-consume-requires
+    gone-requires
+    force-consume-requires
+    gone-requires-2
+    returns
+    returns-2)

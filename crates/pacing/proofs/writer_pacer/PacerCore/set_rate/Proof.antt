@@ -1,0 +1,31 @@
+use Rattle.pacing.specs.WriterPacer.{rateSet}
+use borrow.Author.Needs.{needs}
+use Rattle.pacing.proofs.writer_pacer.PacerCore.set_rate.Statement.{statement}
+use Rattle.pacing.proofs.writer_pacer.PacerCore.set_rate.Tie as tie
+use Rattle.pacing.proofs.writer_pacer.PacerCore.set_rate.Reads as reads
+use Rattle.pacing.proofs.writer_pacer.PacerCore.set_rate.Lts as lts
+use Rattle.pacing.proofs.token_bucket.TokenBucket.set_capacity.Reads as set-capacity-reads
+use Rattle.pacing.proofs.token_bucket.TokenBucket.set_rate.Reads as set-rate-reads
+use Rattle.pacing.proofs.writer_pacer.burst.Reads as burst-reads
+use Rattle.pacing.proofs.writer_pacer.clamped.Reads as clamped-reads
+
+clamped-requires : tie.Need-clamped-requires
+clamped-requires c κs = search needs
+
+set-rate-requires : tie.Need-set-rate-requires
+set-rate-requires c κs = search needs
+
+burst-requires : tie.Need-burst-requires
+burst-requires c κs = search needs
+
+set-capacity-requires : tie.Need-set-capacity-requires
+set-capacity-requires c κs = search needs
+
+returns : tie.Need-returns
+unfolding rateSet
+returns c = rw (← c .before .before .before .clamped .ensures, ← c .before .before .set-rate .ensures, ← c .before .burst .ensures, ← c .set-capacity .ensures)
+
+pub set-rate-spec : {M : Type 1} → statement M
+set-rate-spec =
+    tie.close
+    (tie.spec clamped-requires set-rate-requires burst-requires set-capacity-requires returns)

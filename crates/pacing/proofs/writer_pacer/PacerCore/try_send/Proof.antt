@@ -1,0 +1,60 @@
+use Rattle.pacing.specs.WriterPacer.{attempt}
+use borrow.Author.Tests.{le-ltb, lt-ltb}
+use borrow.Author.Needs.{needs}
+use Rattle.pacing.proofs.writer_pacer.PacerCore.try_send.Statement.{statement}
+use Rattle.pacing.proofs.writer_pacer.PacerCore.try_send.Tie as tie
+use Rattle.pacing.proofs.writer_pacer.PacerCore.try_send.Reads as reads
+use Rattle.pacing.proofs.writer_pacer.PacerCore.try_send.Lts as lts
+use Rattle.pacing.proofs.writer_pacer.PacerCore.gone.Reads as gone-reads
+use Rattle.pacing.proofs.writer_pacer.PacerCore.limited.Reads as limited-reads
+use Rattle.pacing.proofs.writer_pacer.PacerCore.send_p0.Reads as send-p0-reads
+use Rattle.pacing.proofs.writer_pacer.try_paid.Reads as try-paid-reads
+
+send-p0-requires : tie.Need-send-p0-requires
+send-p0-requires c κs = search needs
+
+returns : tie.Need-returns
+unfolding attempt
+returns c = rw (lt-ltb _ _ (c .before .if1 .taken), ← c .send-p0 .ensures)
+
+try-paid-requires : tie.Need-try-paid-requires
+try-paid-requires c κs = search needs
+
+gone-requires : tie.Need-gone-requires
+gone-requires c κs = search needs
+
+returns-2 : tie.Need-returns-2
+unfolding attempt
+returns-2 c = rw (le-ltb _ _ (c .before .before .before .before .if1 .left), ← c .before .before .before .try-paid .ensures, c .before .if2 .taken, ← c .gone .ensures)
+
+try-paid-requires-2 : tie.Need-try-paid-requires-2
+try-paid-requires-2 c κs = search needs
+
+gone-requires-2 : tie.Need-gone-requires-2
+gone-requires-2 c κs = search needs
+
+returns-3 : tie.Need-returns-3
+unfolding attempt
+returns-3 c = rw (le-ltb _ _ (c .before .before .before .before .before .before .before .if1 .left), ← c .before .before .before .before .before .before .try-paid .ensures, c .before .before .before .before .if2 .left, ← c .before .before .before .try-paid2 .ensures, c .before .if3 .taken, ← c .gone2 .ensures)
+
+limited-requires : tie.Need-limited-requires
+limited-requires c κs = search needs
+
+returns-4 : tie.Need-returns-4
+unfolding attempt
+returns-4 c = rw (le-ltb _ _ (c .before .before .before .before .before .before .before .if1 .left), ← c .before .before .before .before .before .before .try-paid .ensures, c .before .before .before .before .if2 .left, ← c .before .before .before .try-paid2 .ensures, c .before .if3 .left, ← c .limited .ensures)
+
+pub try-send-spec : {M : Type 1} → statement M
+try-send-spec =
+    tie.close
+    (tie.spec
+    send-p0-requires
+    returns
+    try-paid-requires
+    gone-requires
+    returns-2
+    try-paid-requires-2
+    gone-requires-2
+    returns-3
+    limited-requires
+    returns-4)

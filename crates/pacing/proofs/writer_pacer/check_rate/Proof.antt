@@ -1,0 +1,22 @@
+use Rattle.config.specs.Refusal.{answerOf}
+use borrow.Author.Tests.{le-ltb, lt-ltb}
+use borrow.Author.Needs.{needs}
+use Rattle.pacing.proofs.writer_pacer.check_rate.Statement.{statement}
+use Rattle.pacing.proofs.writer_pacer.check_rate.Tie as tie
+use Rattle.pacing.proofs.writer_pacer.check_rate.Reads as reads
+use Rattle.pacing.proofs.writer_pacer.check_rate.Lts as lts
+use Rattle.config.proofs.ledger.Ledger.check_timed.Reads as check-timed-reads
+
+returns : tie.Need-returns
+unfolding answerOf
+returns c = rw (lt-ltb _ _ (c .if1 .taken))
+
+check-timed-requires : tie.Need-check-timed-requires
+check-timed-requires c κs = search needs
+
+returns-2 : tie.Need-returns-2
+unfolding answerOf
+returns-2 c = rw (le-ltb _ _ (c .before .if1 .left), ← c .check-timed .ensures)
+
+pub check-rate-spec : {M : Type 1} → statement M
+check-rate-spec = tie.close (tie.spec returns check-timed-requires returns-2)

@@ -1,0 +1,30 @@
+use Rattle.pacing.specs.WriterPacer.{frontOf}
+use borrow.Author.Needs.{needs}
+use Rattle.pacing.proofs.writer_pacer.front.Statement.{statement}
+use Rattle.pacing.proofs.writer_pacer.front.Tie as tie
+use Rattle.pacing.proofs.writer_pacer.front.Reads as reads
+use Rattle.pacing.proofs.writer_pacer.front.Lts as lts
+use Rattle.pacing.proofs.entries.look_at.Reads as look-at-reads
+use Rattle.pacing.proofs.entries.queue_at.Reads as queue-at-reads
+use Rattle.pacing.proofs.ring.Ring.slot_at.Reads as slot-at-reads
+use Rattle.pacing.proofs.writer_pacer.Queues.ring.Reads as ring-reads
+
+ring-requires : tie.Need-ring-requires
+ring-requires c κs = search needs
+
+queue-at-requires : tie.Need-queue-at-requires
+queue-at-requires c κs = search needs
+
+slot-at-requires : tie.Need-slot-at-requires
+slot-at-requires c κs = search needs
+
+look-at-requires : tie.Need-look-at-requires
+look-at-requires c κs = search needs
+
+returns : tie.Need-returns
+unfolding frontOf
+returns c = rw (← c .before .before .before .ring .ensures, ← c .before .before .queue-at .ensures, ← c .before .slot-at .ensures, ← c .look-at .ensures)
+
+pub front-spec : {M : Type 1} → statement M
+front-spec =
+    tie.close (tie.spec ring-requires queue-at-requires slot-at-requires look-at-requires returns)

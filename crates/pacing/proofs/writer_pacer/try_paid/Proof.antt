@@ -1,0 +1,31 @@
+use Rattle.pacing.specs.WriterPacer.{paid}
+use borrow.Author.Tests.{eq-eqb, ne-eqb}
+use borrow.Author.Needs.{needs}
+use Rattle.pacing.proofs.writer_pacer.try_paid.Statement.{statement}
+use Rattle.pacing.proofs.writer_pacer.try_paid.Tie as tie
+use Rattle.pacing.proofs.writer_pacer.try_paid.Reads as reads
+use Rattle.pacing.proofs.writer_pacer.try_paid.Lts as lts
+use Rattle.pacing.proofs.token_bucket.TokenBucket.try_consume.Reads as try-consume-reads
+use Rattle.pacing.proofs.writer_pacer.Queues.ring.Reads as ring-reads
+use Rattle.pacing.proofs.writer_pacer.front.Reads as front-reads
+
+ring-requires : tie.Need-ring-requires
+ring-requires c κs = search needs
+
+returns : tie.Need-returns
+unfolding paid
+returns c = rw (← c .before .before .ring .ensures, eq-eqb _ _ (c .if1 .taken))
+
+front-requires : tie.Need-front-requires
+front-requires c κs = search needs
+
+try-consume-requires : tie.Need-try-consume-requires
+try-consume-requires c κs = search needs
+
+returns-2 : tie.Need-returns-2
+unfolding paid
+returns-2 c = rw (← c .before .before .before .before .ring .ensures, ne-eqb _ _ (c .before .before .if1 .left), ← c .before .front .ensures, ← c .try-consume .ensures)
+
+pub try-paid-spec : {M : Type 1} → statement M
+try-paid-spec =
+    tie.close (tie.spec ring-requires returns front-requires try-consume-requires returns-2)
