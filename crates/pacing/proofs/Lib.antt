@@ -1,2 +1,5 @@
 pub mod RateZero
 pub mod Pools
+pub mod Windows
+pub mod Rings
+pub mod Slots

@@ -87,8 +87,9 @@ insertedAt q place =
 unfoldable pub inserted : CoalescingQueue → List ℕ → ℕ → InstanceKey → Inserted
 inserted q l at key = insertedAt q (found (q .ring) l at key)
 
-abbrev pub poppedFront : CoalescingQueue → CoalescingQueue
-poppedFront q = queueOf (popped (q .ring)) (q .«next_sequence»)
+-- the oldest leaves; an empty queue stays as it is, so that the next new key takes the slot that is its turn
+unfoldable pub poppedFront : CoalescingQueue → CoalescingQueue
+poppedFront q = cond (eqb (q .ring .count) 0) q (queueOf (popped (q .ring)) (q .«next_sequence»))
 
 -- the counts behind the entries: samples replaced, samples pushed out, bytes waiting
 abbrev pub coalescedAt : ℕ → ℕ

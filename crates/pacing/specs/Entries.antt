@@ -57,3 +57,15 @@ unfoldable pub entered : List ℕ → ℕ → Priority → ℕ → Entry → Lis
 entered l at P0 slot e = put2 l (entryAt at P0 slot) e
 entered l at P1 slot e = put2 l (entryAt at P1 slot) e
 entered l at P2 slot e = put4 l (entryAt at P2 slot) e
+
+-- what a class keeps of an entry: P0 and P1 have no key
+unfoldable pub shaped : Priority → Entry → Entry
+shaped P0 e = entryOf (e .sequence) (e .length) noKey
+shaped P1 e = entryOf (e .sequence) (e .length) noKey
+shaped P2 e = e
+
+-- the most records that a class's words have room for: "Queue limits: P0 1 to 128, P1 1 to 512, P2 1 to 128"
+abbrev pub mostOf : Priority → ℕ
+mostOf P0 = 128
+mostOf P1 = 512
+mostOf P2 = 128

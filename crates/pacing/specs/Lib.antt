@@ -3,7 +3,9 @@ pub mod CoalescingQueueAlone
 pub mod Entries
 pub mod Pool
 pub mod Ring
+pub mod Records
 pub mod TokenBucket
 pub mod TokenBucketAlone
 pub mod WriterPacer
 pub mod WriterPacerAlone
+pub mod Window

@@ -176,11 +176,14 @@ impl CoalescingQueue {
         }
     }
 
-    // The oldest leaves.
+    // The oldest leaves; an empty queue stays as it is.
     pub fn pop_front(self) -> CoalescingQueue
         ensures { λ r. ⌜ r ≡ poppedFront self ⌝ }
     {
         let ring = self.ring;
+        if ring.count == 0 {
+            return self;
+        }
         CoalescingQueue {
             ring: ring.pop(),
             next_sequence: self.next_sequence,
