@@ -3,3 +3,4 @@ pub mod Pools
 pub mod Windows
 pub mod Rings
 pub mod Slots
+pub mod Records
