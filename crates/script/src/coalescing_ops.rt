@@ -1,4 +1,4 @@
-// The key hash and instance keys, over a buffer of bytes.
+// The key hash and instance keys, over a buffer of bytes; and that buffer and the pool, which the queue and the pacer share.
 use crate::line::Line;
 use crate::words::Record;
 use crate::words::low_u8;
@@ -19,34 +19,111 @@ const KEY_NEW: u64 = 117;
 
 const HASH_IS: u64 = 118;
 
+const BYTES_PATTERN: u64 = 119;
+
+const POOL_FILL: u64 = 120;
+
+const POOL_SHOW: u64 = 121;
+
+const POOL_LEND: u64 = 122;
+
 // The most bytes that the buffer holds, and that one record brings.
 pub(crate) const BUFFER_BYTES: usize = 4096;
 
 const MOST_JOINED: u64 = 32;
 
-// How many bytes of the buffer are used after an operation, and its line.
+// The bytes of the pool: 768 slots of 1,472.
+pub(crate) const POOL_BYTES: usize = 1130496;
+
+// How many bytes of the buffer are used, and how many of the pool are lent.
+pub(crate) struct Spans {
+    pub(crate) used: usize,
+    pub(crate) lent: usize,
+}
+
+// The spans that an operation leaves, and its line.
 pub(crate) struct BytesPlayed {
-    pub(crate) length: usize,
+    pub(crate) spans: Spans,
     pub(crate) line: Line,
 }
 
-pub(crate) fn play(bytes: &mut [u8; BUFFER_BYTES], length: usize, r: Record) -> BytesPlayed {
+pub(crate) fn play(
+    bytes: &mut [u8; BUFFER_BYTES],
+    pool: &mut [u8; POOL_BYTES],
+    spans: Spans,
+    r: Record,
+) -> BytesPlayed {
     let operation = r.operation;
     let line = Line::new(operation);
     match operation {
-        BYTES_EMPTY => counted(line, 0),
-        BYTES_JOIN => counted(line, join(bytes, length, r)),
+        BYTES_EMPTY => used(line, spans, 0),
+        BYTES_JOIN => used(line, spans, join(bytes, spans.used, r)),
+        BYTES_PATTERN => used(line, spans, pattern(bytes, held(r.a, BUFFER_BYTES), r.b)),
+        POOL_FILL => {
+            fill(pool, low_u8(r.b));
+            lent(line, spans, held(r.a, POOL_BYTES))
+        }
+        POOL_LEND => lent(line, spans, held(r.a, POOL_BYTES)),
+        POOL_SHOW => BytesPlayed {
+            spans,
+            line: line.with_usize(spans.lent).with(hash(pool, spans.lent)),
+        },
         _ => BytesPlayed {
-            length,
-            line: hashed(line, bytes, length, r),
+            spans,
+            line: hashed(line, bytes, spans.used, r),
         },
     }
 }
 
-fn counted(line: Line, length: usize) -> BytesPlayed {
+// An argument, or the most.
+fn held(word: u64, most: usize) -> usize {
+    let length = word as usize;
+    if length < most { length } else { most }
+}
+
+fn used(line: Line, spans: Spans, length: usize) -> BytesPlayed {
     BytesPlayed {
-        length,
+        spans: Spans {
+            used: length,
+            lent: spans.lent,
+        },
         line: line.with_usize(length),
+    }
+}
+
+fn lent(line: Line, spans: Spans, length: usize) -> BytesPlayed {
+    BytesPlayed {
+        spans: Spans {
+            used: spans.used,
+            lent: length,
+        },
+        line: line.with_usize(length),
+    }
+}
+
+// The buffer becomes so many bytes of a pattern, as far as it goes; answers how many it then has.
+fn pattern(bytes: &mut [u8; BUFFER_BYTES], length: usize, seed: u64) -> usize {
+    let mut n: usize = 0;
+    let mut k: usize = 0;
+    while k < length {
+        n = push(bytes, n, pattern_byte(seed, k));
+        k += 1;
+    }
+    n
+}
+
+// A byte of a pattern, the index modulo the buffer's size.
+fn pattern_byte(seed: u64, k: usize) -> u8 {
+    let at = (k % BUFFER_BYTES) as u64;
+    low_u8((seed % 65536 + at) * 40503 / 256)
+}
+
+// Every byte of the pool becomes this one.
+fn fill(pool: &mut [u8; POOL_BYTES], byte: u8) {
+    let mut k: usize = 0;
+    while k < POOL_BYTES {
+        pool[k] = byte;
+        k += 1;
     }
 }
 

@@ -2,15 +2,19 @@
 mod bucket_ops;
 mod coalescing_ops;
 mod config_ops;
+mod digest;
 mod ecn_ops;
 mod line;
 mod numeric_ops;
+mod pacer_ops;
 mod peers_ops;
 mod player;
+mod queue_ops;
 mod rtt_ops;
 mod words;
 
 use coalescing_ops::BUFFER_BYTES;
+use coalescing_ops::POOL_BYTES;
 use line::LINES_BYTES;
 use player::Modules;
 use words::BATCH_BYTES;
@@ -23,12 +27,14 @@ const MOST_BATCHES: u64 = 4294967296;
 pub fn run() {
     let mut modules = Modules::new();
     let mut bytes = [0u8; BUFFER_BYTES];
+    let mut pool = [0u8; POOL_BYTES];
     let mut input = [0u8; BATCH_BYTES];
     let mut out = [0u8; LINES_BYTES];
     let mut batches: u64 = 0;
     while batches < MOST_BATCHES {
         let got = read_batch(&mut input);
-        let played = modules.play_batch(&mut bytes, &input, whole_records(got), &mut out);
+        let records = whole_records(got);
+        let played = modules.play_batch(&mut bytes, &mut pool, &input, records, &mut out);
         modules = played.modules;
         if !write_lines(&out, played.written) {
             return;

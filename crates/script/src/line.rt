@@ -5,10 +5,10 @@ use numeric::float::bits_of_f32;
 use numeric::float::bits_of_f64;
 
 // The most numbers in a line, the operation's among them.
-const MOST_NUMBERS: usize = 28;
+const MOST_NUMBERS: usize = 33;
 
-// Room for the lines of a batch: a line of 28 numbers of 20 digits, with the spaces and its end, has 588 bytes.
-pub(crate) const LINES_BYTES: usize = BATCH_RECORDS * 640;
+// Room for the lines of a batch: a line of 33 numbers of 20 digits, with the spaces and its end, has 693 bytes.
+pub(crate) const LINES_BYTES: usize = BATCH_RECORDS * 704;
 
 pub(crate) struct Line {
     numbers: [u64; MOST_NUMBERS],
@@ -35,6 +35,10 @@ impl Line {
     }
 
     pub(crate) fn with_u8(self, number: u8) -> Line {
+        self.with(number as u64)
+    }
+
+    pub(crate) fn with_u16(self, number: u16) -> Line {
         self.with(number as u64)
     }
 
@@ -74,7 +78,7 @@ impl Line {
 
 // A count held to the room of a line.
 fn held(count: usize) -> usize
-    ensures { λ r. ⌜ r ≤ 28 ⌝ }
+    ensures { λ r. ⌜ r ≤ 33 ⌝ }
 {
     if count < MOST_NUMBERS {
         count

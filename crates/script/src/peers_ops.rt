@@ -1,4 +1,6 @@
 // The tracker of peers.
+use crate::digest::DIGEST_START;
+use crate::digest::joined;
 use crate::line::Line;
 use crate::rtt_ops::last_kind;
 use crate::rtt_ops::last_time;
@@ -22,11 +24,6 @@ const PEERS_SHOW: u64 = 83;
 
 // Places of a tracker.
 const PLACES: u64 = 64;
-
-// FNV-1a's offset basis and prime, on whole fields.
-const DIGEST_START: u64 = 14695981039346656037;
-
-const DIGEST_PRIME: u64 = 1099511628211;
 
 // The tracker that an operation leaves, and its line.
 pub(crate) struct PeersPlayed {
@@ -106,8 +103,4 @@ fn joined_peer(digest: u64, id: u32, estimator: RttEstimator) -> u64 {
     let d = joined(d, estimator.samples());
     let d = joined(d, last_kind(estimator));
     joined(d, last_time(estimator))
-}
-
-fn joined(digest: u64, field: u64) -> u64 {
-    numeric::integer::wrapping_mul(digest ^ field, DIGEST_PRIME)
 }

@@ -2,12 +2,16 @@
 use crate::bucket_ops;
 use crate::coalescing_ops;
 use crate::coalescing_ops::BUFFER_BYTES;
+use crate::coalescing_ops::POOL_BYTES;
+use crate::coalescing_ops::Spans;
 use crate::config_ops;
 use crate::ecn_ops;
 use crate::line::LINES_BYTES;
 use crate::line::Line;
 use crate::numeric_ops;
+use crate::pacer_ops;
 use crate::peers_ops;
+use crate::queue_ops;
 use crate::rtt_ops;
 use crate::words::BATCH_BYTES;
 use crate::words::Record;
@@ -16,7 +20,9 @@ use config::config::CongestionConfig;
 use control::ecn::EcnProcessorAlone;
 use control::rtt_estimator::PeerRttTrackerAlone;
 use control::rtt_estimator::RttEstimatorAlone;
+use pacing::coalescing::CoalescingQueueAlone;
 use pacing::token_bucket::TokenBucketAlone;
+use pacing::writer_pacer::WriterPacerAlone;
 
 // The suites: an operation's number over 16.
 const NUMERIC: u64 = 1;
@@ -33,19 +39,30 @@ const BUCKET: u64 = 6;
 
 const COALESCING: u64 = 7;
 
-// The byte buffer is lent beside them; what stands here is how many of its bytes are used.
+const QUEUE: u64 = 8;
+
+const PACER: u64 = 9;
+
+// The byte buffer and the pool are lent beside them. The queue and the pacer are large: each is moved by its own operations only.
 pub(crate) struct Modules {
+    small: SmallModules,
+    queue: CoalescingQueueAlone,
+    pacer: WriterPacerAlone,
+}
+
+// The other modules, and how much of the byte buffer and of the pool is in use.
+struct SmallModules {
     config: CongestionConfig,
     ecn: EcnProcessorAlone,
     rtt: RttEstimatorAlone,
     peers: PeerRttTrackerAlone,
     bucket: TokenBucketAlone,
-    buffer_length: usize,
+    spans: Spans,
 }
 
 // What a record leaves, and the line that answers it.
 struct Played {
-    modules: Modules,
+    modules: SmallModules,
     line: Line,
 }
 
@@ -58,19 +75,14 @@ pub(crate) struct BatchPlayed {
 impl Modules {
     // Before the first record.
     pub(crate) fn new() -> Modules {
-        let rtt_made = RttEstimatorAlone::new(100.0);
-        let peers_made = PeerRttTrackerAlone::new(100.0);
-        let bucket_made = TokenBucketAlone::new(0, 1, 0);
-        let rtt = rtt_made.alone;
-        let peers = peers_made.alone;
-        let bucket = bucket_made.alone;
+        Modules::of(SmallModules::new(), queue_ops::first(), pacer_ops::first())
+    }
+
+    fn of(small: SmallModules, queue: CoalescingQueueAlone, pacer: WriterPacerAlone) -> Modules {
         Modules {
-            config: CongestionConfig::new(),
-            ecn: EcnProcessorAlone::new(),
-            rtt,
-            peers,
-            bucket,
-            buffer_length: 0,
+            small,
+            queue,
+            pacer,
         }
     }
 
@@ -78,24 +90,68 @@ impl Modules {
     pub(crate) fn play_batch(
         self,
         bytes: &mut [u8; BUFFER_BYTES],
+        pool: &mut [u8; POOL_BYTES],
         input: &[u8; BATCH_BYTES],
         records: usize,
         out: &mut [u8; LINES_BYTES],
     ) -> BatchPlayed {
-        let mut modules = self;
+        let mut small = self.small;
+        let mut queue = self.queue;
+        let mut pacer = self.pacer;
         let mut written: usize = 0;
         let mut k: usize = 0;
         while k < records {
-            let played = modules.play(bytes, record_at(input, k));
-            let line = played.line;
-            modules = played.modules;
-            written = line.write(out, written);
+            let r = record_at(input, k);
+            match r.operation / 16 {
+                QUEUE => {
+                    let played = queue_ops::play(queue, bytes, pool, small.spans, r);
+                    queue = played.alone;
+                    written = played.line.write(out, written);
+                }
+                PACER => {
+                    let played = pacer_ops::play(pacer, small.config, bytes, pool, small.spans, r);
+                    pacer = played.alone;
+                    written = played.line.write(out, written);
+                }
+                _ => {
+                    let played = small.play(bytes, pool, r);
+                    small = played.modules;
+                    written = played.line.write(out, written);
+                }
+            }
             k += 1;
         }
-        BatchPlayed { modules, written }
+        BatchPlayed {
+            modules: Modules::of(small, queue, pacer),
+            written,
+        }
+    }
+}
+
+impl SmallModules {
+    fn new() -> SmallModules {
+        let rtt_made = RttEstimatorAlone::new(100.0);
+        let peers_made = PeerRttTrackerAlone::new(100.0);
+        let bucket_made = TokenBucketAlone::new(0, 1, 0);
+        let rtt = rtt_made.alone;
+        let peers = peers_made.alone;
+        let bucket = bucket_made.alone;
+        SmallModules {
+            config: CongestionConfig::new(),
+            ecn: EcnProcessorAlone::new(),
+            rtt,
+            peers,
+            bucket,
+            spans: Spans { used: 0, lent: 0 },
+        }
     }
 
-    fn play(self, bytes: &mut [u8; BUFFER_BYTES], r: Record) -> Played {
+    fn play(
+        self,
+        bytes: &mut [u8; BUFFER_BYTES],
+        pool: &mut [u8; POOL_BYTES],
+        r: Record,
+    ) -> Played {
         let suite = r.operation / 16;
         match suite {
             NUMERIC => Played {
@@ -107,7 +163,7 @@ impl Modules {
             RTT => self.play_rtt(r),
             PEERS => self.play_peers(r),
             BUCKET => self.play_bucket(r),
-            COALESCING => self.play_coalescing(bytes, r),
+            COALESCING => self.play_coalescing(bytes, pool, r),
             _ => Played {
                 modules: self,
                 line: Line::new(r.operation),
@@ -170,10 +226,16 @@ impl Modules {
         }
     }
 
-    fn play_coalescing(mut self, bytes: &mut [u8; BUFFER_BYTES], r: Record) -> Played {
-        let played = coalescing_ops::play(bytes, self.buffer_length, r);
+    fn play_coalescing(
+        mut self,
+        bytes: &mut [u8; BUFFER_BYTES],
+        pool: &mut [u8; POOL_BYTES],
+        r: Record,
+    ) -> Played {
+        let played = coalescing_ops::play(bytes, pool, self.spans, r);
+        let spans = played.spans;
         let line = played.line;
-        self.buffer_length = played.length;
+        self.spans = spans;
         Played {
             modules: self,
             line,

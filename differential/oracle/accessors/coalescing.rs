@@ -8,3 +8,14 @@ impl InstanceKey {
         self.key_hash
     }
 }
+
+impl CoalescingQueue {
+    pub fn next_sequence(&self) -> u64 {
+        self.next_sequence
+    }
+
+    /// What waits, from the head.
+    pub fn waiting(&self) -> impl Iterator<Item = &CoalescedSample> {
+        self.order.iter().map(|key| &self.map[key])
+    }
+}

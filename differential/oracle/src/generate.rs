@@ -8,7 +8,10 @@ mod coalescing;
 mod config;
 mod ecn;
 mod numeric;
+mod pacer;
 mod peers;
+mod queue;
+mod records;
 mod rtt;
 mod times;
 mod values;
@@ -20,7 +23,7 @@ pub struct Suite {
     episode: fn(&mut Script, &mut Random, u64),
 }
 
-pub static SUITES: [Suite; 7] = [
+pub static SUITES: [Suite; 9] = [
     Suite {
         name: "numeric",
         boundary: numeric::boundary,
@@ -56,11 +59,40 @@ pub static SUITES: [Suite; 7] = [
         boundary: coalescing::boundary,
         episode: coalescing::episode,
     },
+    Suite {
+        name: "queue",
+        boundary: queue::boundary,
+        episode: queue::episode,
+    },
+    Suite {
+        name: "pacer",
+        boundary: pacer::boundary,
+        episode: pacer::episode,
+    },
 ];
+
+/// A fixed list of calls that can be printed by its name; it stands among its suite's boundary cases too.
+pub struct Case {
+    pub name: &'static str,
+    calls: fn(&mut Script),
+}
+
+pub static CASES: [Case; 1] = [Case {
+    name: "accident",
+    calls: pacer::accident,
+}];
 
 /// The suite of that name.
 pub fn suite(name: &str) -> Option<&'static Suite> {
     SUITES.iter().find(|suite| suite.name == name)
+}
+
+/// The calls of the case of that name.
+pub fn case(name: &str) -> Option<Script> {
+    let case = CASES.iter().find(|case| case.name == name)?;
+    let mut script = Script::default();
+    (case.calls)(&mut script);
+    Some(script)
 }
 
 /// The name of a field of the settings (its number modulo 25), and whether it is a float.

@@ -5,6 +5,7 @@ mod clock;
 mod compare;
 #[allow(dead_code)] // The Rust as it stands; the scripts reach part of it.
 mod congestion;
+mod digest;
 mod generate;
 mod line;
 mod operation;
@@ -23,9 +24,11 @@ usage: oracle play < SCRIPT                        the Rust's answer to each cal
        oracle generate --suite NAME --calls N --seed S [--cut]
                                                    a script; with --cut it ends in a record cut short
        oracle show < SCRIPT                        the script as text, one call a line
+       oracle case NAME                            a named case as text, each call and the Rust's line below it
        oracle compare SCRIPT ORACLE_LINES REPLAY_LINES
                                                    how many lines differ, and the first three
        oracle suites                               the names of the suites
+       oracle cases                                the names of the named cases
 Exit status: 0 done, or no difference; 1 differences; 2 bad usage, or a file that cannot be read.";
 
 fn main() -> ExitCode {
@@ -48,12 +51,22 @@ fn run(words: &[&str]) -> Result<bool, String> {
         ["play"] => done(play::play(input, io::stdout())),
         ["generate", options @ ..] => generate(options, output),
         ["show"] => done(show::show(input, output)),
+        ["case", name] => {
+            let script = generate::case(name).ok_or(format!("there is no case '{name}'"))?;
+            done(show::show_answered(&script, output))
+        }
         ["compare", script, oracle, replay] => {
             compare::compare(open(script)?, open(oracle)?, open(replay)?, output).map_err(text)
         }
         ["suites"] => {
             for suite in &generate::SUITES {
                 println!("{}", suite.name);
+            }
+            Ok(true)
+        }
+        ["cases"] => {
+            for case in &generate::CASES {
+                println!("{}", case.name);
             }
             Ok(true)
         }

@@ -45,3 +45,20 @@ pub const FROM_TOPIC_AND_KEY: u64 = 115;
 pub const KEYLESS: u64 = 116;
 pub const KEY_NEW: u64 = 117;
 pub const HASH_IS: u64 = 118;
+pub const BYTES_PATTERN: u64 = 119;
+pub const POOL_FILL: u64 = 120;
+pub const POOL_SHOW: u64 = 121;
+pub const POOL_LEND: u64 = 122;
+
+pub const QUEUE_NEW: u64 = 128;
+pub const QUEUE_INSERT: u64 = 129;
+pub const QUEUE_POP: u64 = 130;
+pub const QUEUE_PEEK: u64 = 131;
+pub const QUEUE_CALLS: u64 = 132;
+
+pub const PACER_NEW: u64 = 144;
+pub const PACER_ENQUEUE: u64 = 145;
+pub const PACER_ENQUEUE_KEYED: u64 = 146;
+pub const PACER_TRY_SEND: u64 = 147;
+pub const PACER_SET_RATE: u64 = 148;
+pub const PACER_CALLS: u64 = 149;

@@ -9,10 +9,13 @@ use crate::script::{read_record, Record};
 
 mod bucket;
 pub mod coalescing;
-mod config;
+pub mod config;
 mod ecn;
 mod numeric;
+pub mod pacer;
 mod peers;
+pub mod pool;
+mod queue;
 mod rtt;
 
 /// Lines are written out once there are this many bytes of them.
@@ -29,6 +32,9 @@ struct Player {
     peers: peers::Peers,
     bucket: bucket::Bucket,
     bytes: coalescing::Bytes,
+    pool: pool::Pool,
+    queue: queue::Queue,
+    pacer: pacer::Pacer,
 }
 
 impl Player {
@@ -41,7 +47,18 @@ impl Player {
             64..=66 => self.rtt.play(record, lines),
             80..=83 => self.peers.play(record, lines),
             96..=103 => self.bucket.play(record, lines),
-            112..=118 => self.bytes.play(record, lines),
+            112..=119 => self.bytes.play(record, lines),
+            120..=122 => self.pool.play(record, lines),
+            128..=132 => self
+                .queue
+                .play(record, self.bytes.bytes(), &mut self.pool, lines),
+            144..=149 => self.pacer.play(
+                record,
+                self.config.settings(),
+                self.bytes.bytes(),
+                &mut self.pool,
+                lines,
+            ),
             _ => {}
         }
         lines.end();

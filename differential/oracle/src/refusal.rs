@@ -3,11 +3,17 @@
 pub const ACCEPTED: u64 = 0;
 pub const VALIDATE: u64 = 1;
 pub const SETTINGS: u64 = 2;
+/// A record that is too long.
+pub const LENGTH: u64 = 3;
 pub const RTT: u64 = 4;
 /// A rate, a bucket's capacity or a byte count.
 pub const RATE: u64 = 6;
 pub const TIME: u64 = 7;
+/// A lent buffer that is too short.
+pub const BUFFER: u64 = 8;
 pub const EARLIER: u64 = 11;
+pub const P0_FULL: u64 = 12;
+pub const DISABLED: u64 = 13;
 pub const FULL: u64 = 14;
 pub const CALLS: u64 = 17;
 

@@ -1,10 +1,11 @@
 //! Scripts as text, one call a line.
 
-use std::io::{self, Read, Write};
+use std::io::{self, BufRead, Read, Write};
 
 use crate::generate::config_field;
 use crate::operation::*;
-use crate::script::{read_record, Record};
+use crate::play;
+use crate::script::{read_record, Record, Script};
 
 /// Each record of `script`: its index and the call.
 pub fn show(mut script: impl Read, mut output: impl Write) -> io::Result<()> {
@@ -12,6 +13,19 @@ pub fn show(mut script: impl Read, mut output: impl Write) -> io::Result<()> {
     while let Some(record) = read_record(&mut script)? {
         writeln!(output, "{index}: {}", text(&record))?;
         index += 1;
+    }
+    output.flush()
+}
+
+/// Each call of `script` and, below it, the Rust's answer.
+pub fn show_answered(script: &Script, mut output: impl Write) -> io::Result<()> {
+    let (mut records, mut lines) = (Vec::new(), Vec::new());
+    script.write(&mut records)?;
+    play::play(&records[..], &mut lines)?;
+    let mut records = &records[..];
+    for line in lines.lines() {
+        let record = read_record(&mut records)?.expect("a line answers a record");
+        writeln!(output, "{}\n    {}", text(&record), line?)?;
     }
     output.flush()
 }
@@ -56,6 +70,12 @@ pub fn text(record: &Record) -> String {
         KEYLESS => "keyless of the byte buffer".into(),
         KEY_NEW => format!("InstanceKey::new({a:#018x}, {b:#018x})"),
         HASH_IS => format!("is hash_bytes of the byte buffer {a:#018x}?"),
+        BYTES_PATTERN => format!("the byte buffer becomes {a} bytes of pattern {b}"),
+        POOL_FILL => format!("every byte of the pool becomes {}, {a} are lent", b as u8),
+        POOL_SHOW => "the lent part of the pool is shown".into(),
+        POOL_LEND => format!("{a} bytes of the pool are lent"),
+        QUEUE_NEW..=QUEUE_CALLS => queue(record),
+        PACER_NEW..=PACER_CALLS => pacer(record),
         unknown => format!("unknown operation {unknown} {:?}", record.arguments),
     }
 }
@@ -78,6 +98,31 @@ fn numeric(record: &Record) -> String {
         AS_SECS_F64 => format!("as_secs_f64({a} ns)"),
         FROM_SECS_F64 => format!("from_secs_f64({})", f64_text(a)),
         _ => format!("wrapping_mul({a}, {b})"),
+    }
+}
+
+fn queue(record: &Record) -> String {
+    let [a, b, ..] = record.arguments;
+    match record.operation {
+        QUEUE_NEW => format!("a new queue of limit {a}"),
+        QUEUE_INSERT => format!("insert under the key {a:#018x}, {b:#018x}"),
+        QUEUE_POP => "pop_front()".into(),
+        QUEUE_PEEK => "peek_front()".into(),
+        _ => format!("the queue's call count becomes {a}"),
+    }
+}
+
+fn pacer(record: &Record) -> String {
+    let [a, b, c, ..] = record.arguments;
+    match record.operation {
+        PACER_NEW => format!("a new pacer at time {a}, initial rate {b}"),
+        PACER_ENQUEUE => format!("enqueue at time {a} in P{}", b % 3),
+        PACER_ENQUEUE_KEYED => {
+            format!("enqueue_p2_keyed at time {a} under the key {b:#018x}, {c:#018x}")
+        }
+        PACER_TRY_SEND => format!("try_send at time {a}"),
+        PACER_SET_RATE => format!("the pacer's set_rate at time {a} to {b}"),
+        _ => format!("the pacer's call count becomes {a}"),
     }
 }
 

@@ -5,10 +5,10 @@ use Rattle.script.proofs.run.Statement.{statement}
 use Rattle.script.proofs.run.Tie as tie
 
 abbrev Inv-loop : tie.InvT-loop
-Inv-loop modules₀ bytes₀ input₀ out₀ batches₀ modules bytes input out batches = Unit {0}
+Inv-loop modules₀ bytes₀ pool₀ input₀ out₀ batches₀ modules bytes pool input out batches = Unit {0}
 
 abbrev μ-loop : tie.MeasureT-loop
-μ-loop modules₀ bytes₀ input₀ out₀ batches₀ modules bytes input out batches = 4294967296 - batches
+μ-loop modules₀ bytes₀ pool₀ input₀ out₀ batches₀ modules bytes pool input out batches = 4294967296 - batches
 
 pub run-spec : {M : Type 1} → statement M
 run-spec = tie.close (tie.spec Inv-loop μ-loop (λ c κs. tt) (λ c. tt) (λ c κs. tt) (λ c κs. tt) (λ c κs. tt)

@@ -34,20 +34,20 @@ pub const FIELD_NAMES: [&str; 25] = [
     "ecn_mode",
 ];
 
-const MIN_RATE: u64 = 1;
-const MAX_RATE: u64 = 2;
-const AI_STEP: u64 = 3;
-const MD_HARD: u64 = 4;
+pub const MIN_RATE: u64 = 1;
+pub const MAX_RATE: u64 = 2;
+pub const AI_STEP: u64 = 3;
+pub const MD_HARD: u64 = 4;
 const MD_SOFT: u64 = 5;
-const DECAY: u64 = 9;
-const DECREASE: u64 = 10;
+pub const DECAY: u64 = 9;
+pub const DECREASE: u64 = 10;
 const INCREASE: u64 = 11;
-const REPAIR_RATIO: u64 = 18;
-const QUEUE_P0: u64 = 19;
-const QUEUE_P1: u64 = 20;
-const QUEUE_P2: u64 = 21;
-const P0_SHARE: u64 = 22;
-const P0_MIN: u64 = 23;
+pub const REPAIR_RATIO: u64 = 18;
+pub const QUEUE_P0: u64 = 19;
+pub const QUEUE_P1: u64 = 20;
+pub const QUEUE_P2: u64 = 21;
+pub const P0_SHARE: u64 = 22;
+pub const P0_MIN: u64 = 23;
 
 /// The fields that are f32.
 pub fn is_float(field: u64) -> bool {
@@ -230,7 +230,7 @@ fn change(script: &mut Script, random: &mut Random) {
 }
 
 /// A value that the defaults' other fields mostly accept.
-fn usual(random: &mut Random, field: u64) -> u64 {
+pub fn usual(random: &mut Random, field: u64) -> u64 {
     match field {
         0 | 13 => random.below(2),
         MIN_RATE => random.between(1, 100_000_000),

@@ -1,4 +1,4 @@
-//! The key hash and instance keys, over a buffer of bytes.
+//! The buffer of bytes: the key hash and instance keys over it, and the records that queues and pacers are given.
 
 use crate::congestion::coalescing::InstanceKey;
 use crate::line::Lines;
@@ -29,8 +29,16 @@ impl Bytes {
             KEYLESS => key(&keyless(&self.bytes), lines),
             KEY_NEW => key(&InstanceKey::new(a, b), lines),
             HASH_IS => lines.number(hash_bytes(&self.bytes) == a),
+            BYTES_PATTERN => {
+                self.bytes = pattern(a, b);
+                lines.number(self.bytes.len() as u64);
+            }
             _ => {}
         }
+    }
+
+    pub fn bytes(&self) -> &[u8] {
+        &self.bytes
     }
 
     fn topic_and_key(&self, topic_bytes: u64) -> InstanceKey {
@@ -61,6 +69,13 @@ pub fn join(buffer: &mut Vec<u8>, arguments: [u64; 5]) {
     let count = (arguments[0].min(32) as usize).min(BUFFER_BYTES - buffer.len());
     let joined = words.iter().flat_map(|word| word.to_le_bytes());
     buffer.extend(joined.take(count));
+}
+
+/// `length` (at most 4,096) bytes that `number` decides.
+pub fn pattern(length: u64, number: u64) -> Vec<u8> {
+    let first = number % 65_536;
+    let byte = |k| ((first + k) * 40_503 / 256) as u8;
+    (0..length.min(BUFFER_BYTES as u64)).map(byte).collect()
 }
 
 fn key(key: &InstanceKey, lines: &mut Lines) {

@@ -15,26 +15,29 @@ pub struct Config {
 }
 
 impl Config {
+    pub fn settings(&self) -> &CongestionConfig {
+        &self.config
+    }
+
     pub fn play(&mut self, record: Record, lines: &mut Lines) {
         let [a, b, ..] = record.arguments;
         match record.operation {
             CONFIG_NEW if a & 1 == 1 => self.config = CongestionConfig::disabled(),
             CONFIG_NEW => self.config = CongestionConfig::default(),
             CONFIG_SET => set(&mut self.config, a % FIELDS, b),
-            CONFIG_CHECK => check(&self.config, lines),
+            CONFIG_CHECK => lines.numbers(&[answer(&self.config), failed_check(&self.config)]),
             _ => {}
         }
         fields(&self.config, lines);
     }
 }
 
-fn check(config: &CongestionConfig, lines: &mut Lines) {
-    let failed = failed_check(config);
-    let answer = refusal::first(&[
-        (failed != 0, refusal::VALIDATE),
+/// The number by which the settings are refused, 0 where they are accepted.
+pub fn answer(config: &CongestionConfig) -> u64 {
+    refusal::first(&[
+        (failed_check(config) != 0, refusal::VALIDATE),
         (beyond(config), refusal::SETTINGS),
-    ]);
-    lines.numbers(&[answer, failed]);
+    ])
 }
 
 /// Which of the seven checks of `validate` fails, 0 where none does.
@@ -80,7 +83,7 @@ fn beyond(config: &CongestionConfig) -> bool {
         || !(1..=128).contains(&config.max_queue_p2)
 }
 
-fn set(config: &mut CongestionConfig, field: u64, value: u64) {
+pub fn set(config: &mut CongestionConfig, field: u64, value: u64) {
     match field {
         0 => config.enabled = value & 1 == 1,
         1 => config.min_rate_bps = value as u32,

@@ -2,15 +2,13 @@
 
 use crate::clock;
 use crate::congestion::rtt_estimator::{PeerRttTracker, RttEstimator};
+use crate::digest;
 use crate::line::Lines;
 use crate::operation::*;
 use crate::play::numeric::f32_of;
 use crate::play::rtt;
 use crate::refusal::{self, Ledger};
 use crate::script::Record;
-
-const DIGEST_START: u64 = 14_695_981_039_346_656_037;
-const DIGEST_PRIME: u64 = 1_099_511_628_211;
 
 pub struct Peers {
     tracker: PeerRttTracker,
@@ -82,12 +80,12 @@ impl Peers {
     }
 
     fn digest(&self) -> u64 {
-        let mut digest = DIGEST_START;
+        let mut digest = digest::START;
         for &id in &self.ids {
-            digest = joined(digest, id.into());
+            digest = digest::joined(digest, id.into());
             digest = rtt::state(self.estimator(id))
                 .into_iter()
-                .fold(digest, joined);
+                .fold(digest, digest::joined);
         }
         digest
     }
@@ -109,8 +107,4 @@ impl Peers {
     fn estimator(&self, id: u32) -> &RttEstimator {
         self.tracker.get(id).expect("a listed peer is tracked")
     }
-}
-
-fn joined(digest: u64, field: u64) -> u64 {
-    (digest ^ field).wrapping_mul(DIGEST_PRIME)
 }

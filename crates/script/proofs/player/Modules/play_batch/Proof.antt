@@ -5,11 +5,13 @@ use Rattle.script.proofs.player.Modules.play_batch.Statement.{statement
 use Rattle.script.proofs.player.Modules.play_batch.Tie as tie
 
 abbrev Inv-loop : tie.InvT-loop
-Inv-loop bytes₀ input records out₀ modules₀ written₀ k₀ bytes out modules written k = Unit {0}
+Inv-loop bytes₀ pool₀ input records out₀ small₀ queue₀ pacer₀ written₀ k₀ bytes pool out small queue pacer written k =
+    Unit {0}
 
 abbrev μ-loop : tie.MeasureT-loop
-μ-loop bytes₀ input records out₀ modules₀ written₀ k₀ bytes out modules written k = records - k
+μ-loop bytes₀ pool₀ input records out₀ small₀ queue₀ pacer₀ written₀ k₀ bytes pool out small queue pacer written k =
+    records - k
 
 pub play-batch-spec : {M : Type 1} → statement M
-play-batch-spec = tie.close (tie.spec Inv-loop μ-loop (λ c. tt) (λ c κs. tt) (λ c κs. tt) (λ c κs. tt)
-    (λ c. search needs) (λ c. search needs) (λ c. tt) (λ c. tt))
+play-batch-spec = tie.close (tie.spec Inv-loop μ-loop (λ c. tt) (λ c κs. tt) (λ c κs. tt) (λ c κs. tt) (λ c κs. tt)
+    (λ c κs. tt) (λ c κs. tt) (λ c κs. tt) (λ c. search needs) (λ c. search needs) (λ c. tt) (λ c κs. tt) (λ c. tt))
