@@ -89,7 +89,7 @@ inserted q l at key = insertedAt q (found (q .ring) l at key)
 
 -- the oldest leaves; an empty queue stays as it is, so that the next new key takes the slot that is its turn
 unfoldable pub poppedFront : CoalescingQueue → CoalescingQueue
-poppedFront q = cond (eqb (q .ring .count) 0) q (queueOf (popped (q .ring)) (q .«next_sequence»))
+poppedFront q = cond (ltb 0 (q .ring .count)) (queueOf (popped (q .ring)) (q .«next_sequence»)) q
 
 -- the counts behind the entries: samples replaced, samples pushed out, bytes waiting
 abbrev pub coalescedAt : ℕ → ℕ

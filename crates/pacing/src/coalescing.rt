@@ -181,12 +181,13 @@ impl CoalescingQueue {
         ensures { λ r. ⌜ r ≡ poppedFront self ⌝ }
     {
         let ring = self.ring;
-        if ring.count == 0 {
-            return self;
-        }
-        CoalescingQueue {
-            ring: ring.pop(),
-            next_sequence: self.next_sequence,
+        if 0 < ring.count {
+            CoalescingQueue {
+                ring: ring.pop(),
+                next_sequence: self.next_sequence,
+            }
+        } else {
+            self
         }
     }
 

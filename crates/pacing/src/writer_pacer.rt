@@ -255,13 +255,14 @@ impl PacerCore {
         if ring.count < ring.limit {
             self.place_in(Priority::P0, sequence)
         } else {
+            let refused = Kept {
+                fate: Fate::Full,
+                slot: 0,
+                sequence,
+            };
             Enqueued {
                 core: self,
-                kept: Kept {
-                    fate: Fate::Full,
-                    slot: 0,
-                    sequence,
-                },
+                kept: refused,
             }
         }
     }
@@ -338,16 +339,10 @@ impl PacerCore {
         let tried = self.tokens.try_consume(time, length);
         let bucket = tried.bucket;
         if tried.taken {
-            self.gone(words, i, Priority::P0, bucket, false)
-        } else {
-            self.gone(
-                words,
-                i,
-                Priority::P0,
-                bucket.force_consume(time, length),
-                true,
-            )
+            return self.gone(words, i, Priority::P0, bucket, false);
         }
+        let emptied = bucket.force_consume(time, length);
+        self.gone(words, i, Priority::P0, emptied, true)
     }
 
     // The wait for `length` tokens.

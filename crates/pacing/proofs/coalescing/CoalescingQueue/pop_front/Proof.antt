@@ -1,5 +1,5 @@
 use Rattle.pacing.specs.Coalescing.{poppedFront}
-use borrow.Author.Tests.{eq-eqb, ne-eqb}
+use borrow.Author.Tests.{le-ltb, lt-ltb}
 use borrow.Author.Needs.{needs}
 use Rattle.pacing.proofs.coalescing.CoalescingQueue.pop_front.Statement.{statement}
 use Rattle.pacing.proofs.coalescing.CoalescingQueue.pop_front.Tie as tie
@@ -7,16 +7,16 @@ use Rattle.pacing.proofs.coalescing.CoalescingQueue.pop_front.Reads as 
 use Rattle.pacing.proofs.coalescing.CoalescingQueue.pop_front.Lts as lts
 use Rattle.pacing.proofs.ring.Ring.pop.Reads as pop-reads
 
-returns : tie.Need-returns
-unfolding poppedFront
-returns c = rw (eq-eqb _ _ (c .if1 .taken))
-
 pop-requires : tie.Need-pop-requires
 pop-requires c κs = search needs
 
+returns : tie.Need-returns
+unfolding poppedFront
+returns c = rw (lt-ltb _ _ (c .before .if1 .taken), ← c .pop .ensures)
+
 returns-2 : tie.Need-returns-2
 unfolding poppedFront
-returns-2 c = rw (ne-eqb _ _ (c .before .if1 .left), ← c .pop .ensures)
+returns-2 c = rw (le-ltb _ _ (c .if1 .left))
 
 pub pop-front-spec : {M : Type 1} → statement M
-pop-front-spec = tie.close (tie.spec returns pop-requires returns-2)
+pop-front-spec = tie.close (tie.spec pop-requires returns returns-2)

@@ -18,15 +18,15 @@ try-consume-requires c κs = search needs
 gone-requires : tie.Need-gone-requires
 gone-requires c κs = search needs
 
+returns : tie.Need-returns
+unfolding attemptP0
+returns c = rw (← c .before .before .before .before .front .ensures, ← c .before .before .before .try-consume .ensures, c .before .if1 .taken, ← c .gone .ensures)
+
 force-consume-requires : tie.Need-force-consume-requires
 force-consume-requires c κs = search needs
 
 gone-requires-2 : tie.Need-gone-requires-2
 gone-requires-2 c κs = search needs
-
-returns : tie.Need-returns
-unfolding attemptP0
-returns c = rw (← c .before .before .before .before .front .ensures, ← c .before .before .before .try-consume .ensures, c .before .if1 .taken, ← c .gone .ensures)
 
 returns-2 : tie.Need-returns-2
 unfolding attemptP0
@@ -39,7 +39,7 @@ send-p0-spec =
     front-requires
     try-consume-requires
     gone-requires
+    returns
     force-consume-requires
     gone-requires-2
-    returns
     returns-2)
