@@ -7,6 +7,10 @@ use mathlib.Core.Path.{_≡_}
 use lib.Ieee.{Float, fin, binary32, ofInt}
 use lib.IntN.{pos, negsuc}
 use lib.ListN.{replicate}
+use Rattle.config.specs.Config.{classNumber}
+use Rattle.config.specs.Ledger.{opened}
+use Rattle.config.specs.declared.config.Priority.{Priority}
+use Rattle.config.specs.declared.config.Priority.the-variants.{P0, P1, P2}
 use Rattle.control.specs.Ecn.{codepointOf, newProcessor, processedTos}
 use Rattle.control.specs.RttEstimator.{newEstimator, updated, rtoOf}
 use Rattle.control.specs.declared.ecn.EcnCodepoint.{EcnCodepoint}
@@ -15,7 +19,15 @@ use Rattle.control.specs.declared.ecn.Processed.{Processed}
 use Rattle.control.specs.declared.rtt_estimator.RttEstimator.{RttEstimator}
 use Rattle.pacing.specs.Coalescing.{fnv1a}
 use Rattle.pacing.specs.TokenBucket.{made, refilled, tried, told}
+use Rattle.pacing.specs.Pool.{bytesOf, slotsOf}
+use Rattle.pacing.specs.WriterPacer as pacing
+use Rattle.pacing.specs.WriterPacerAlone.{pacerAloneOf, handedAlone, sentAlone}
+use Rattle.pacing.specs.declared.coalescing.InstanceKey.{InstanceKey}
+use Rattle.pacing.specs.declared.pool.Limits.{Limits}
 use Rattle.pacing.specs.declared.token_bucket.TokenBucket.{TokenBucket}
+use Rattle.pacing.specs.declared.writer_pacer.SendAction.{SendAction}
+use Rattle.pacing.specs.declared.writer_pacer.SendAction.the-variants.{Send, Empty, RateLimited}
+use Rattle.pacing.specs.declared.writer_pacer.WriterPacerAlone.{WriterPacerAlone}
 
 -- ---- what a row gives and what it gets
 
@@ -23,6 +35,11 @@ use Rattle.pacing.specs.declared.token_bucket.TokenBucket.{TokenBucket}
 pub data Step : Type 0 where
   take wait : ℕ → ℕ → Step
   refill : ℕ → Step
+
+-- a call on a pacer, at time 0: a record of a class under a key (P2's) and of a length, or a send attempt
+pub data Act : Type 0 where
+  hand : Priority → ℕ → ℕ → Act
+  send : Act
 
 pub data Input : Type 0 where
   -- a rate, as the nearest f32
@@ -37,12 +54,21 @@ pub data Input : Type 0 where
   bytes : List ℕ → Input
   -- a bucket's rate and capacity, made at time 0, and steps on it
   bucket : ℕ → ℕ → List Step → Input
+  -- a pacer's queue limits and rate, made at time 0, and calls on it
+  pacer : ℕ → ℕ → ℕ → ℕ → List Act → Input
 
 -- what a step on a bucket answers, and the tokens that it leaves
 pub data Left : Type 0 where
   taken : Bool → ℕ → Left
   waits : ℕ → ℕ → Left
   refilledTo : ℕ → Left
+
+-- what a call on a pacer answers: a hand-in its number, a send attempt what it comes to
+pub data Answer : Type 0 where
+  answered : ℕ → Answer
+  sent : ℕ → ℕ → ℕ → Answer
+  nothing : Answer
+  waitFor : ℕ → Answer
 
 pub data Result : Type 0 where
   float : Float → Result
@@ -53,6 +79,7 @@ pub data Result : Type 0 where
   codepoint : EcnCodepoint → Result
   hash : ℕ → Result
   steps : List Left → Result
+  acts : List Answer → Result
 
 -- ---- what the definitions give
 
@@ -82,6 +109,39 @@ abbrev walked : TokenBucket → List Step → List Left
 walked b [] = []
 walked b (s ∷ rest) = seen b s ∷ walked (stepped b s) rest
 
+abbrev limitsOf : ℕ → ℕ → ℕ → Limits
+limitsOf p0 p1 p2 = record { p0 = p0; p1 = p1; p2 = p2 }
+
+abbrev newPacer : Limits → ℕ → WriterPacerAlone
+newPacer m r =
+    pacerAloneOf (opened 0) (record { enabled = true; «min_rate_bps» = 1; «max_rate_bps» = 1000000000; limits = m }) (pacing.made 0 m r)
+    (replicate 1805 0)
+
+-- a pool that is just long enough
+abbrev poolBytes : WriterPacerAlone → ℕ
+poolBytes a = bytesOf (slotsOf (a .config .limits))
+
+abbrev keyNumber : ℕ → InstanceKey
+keyNumber k = record { «topic_hash» = k; «key_hash» = 0 }
+
+abbrev acted : WriterPacerAlone → Act → WriterPacerAlone
+acted a (hand c key n) = handedAlone a (poolBytes a) 0 c (keyNumber key) n .alone
+acted a send = sentAlone a (poolBytes a) 0 .alone
+
+-- class, sequence and length of a sent record
+abbrev shownBy : SendAction → Answer
+shownBy (Send c slot sequence n forced) = sent (classNumber c) sequence n
+shownBy Empty = nothing
+shownBy (RateLimited nanos) = waitFor nanos
+
+abbrev answers : WriterPacerAlone → Act → Answer
+answers a (hand c key n) = answered (handedAlone a (poolBytes a) 0 c (keyNumber key) n .answer)
+answers a send = shownBy (sentAlone a (poolBytes a) 0 .action)
+
+abbrev performed : WriterPacerAlone → List Act → List Answer
+performed a [] = []
+performed a (x ∷ rest) = answers a x ∷ performed (acted a x) rest
+
 abbrev pub outcome : Input → Result
 outcome (rate n) = float (ofInt binary32 (pos n))
 outcome (samples xs) = shown (sampled (newEstimator (fin false 25 (pos 2))) xs)
@@ -89,6 +149,7 @@ outcome (packets xs) = signals (received (record { processor = newProcessor; sig
 outcome (tos x) = codepoint (codepointOf x)
 outcome (bytes xs) = hash (fnv1a xs)
 outcome (bucket r n xs) = steps (walked (made 0 r n) xs)
+outcome (pacer p0 p1 p2 r xs) = acts (performed (newPacer (limitsOf p0 p1 p2) r) xs)
 
 -- ---- the table
 
@@ -124,6 +185,14 @@ table =
     -- bucket 10,000/s, full 1,500: take 1,472, 28 left; 1 ms later 38; 1,472 more waits 143,400,000 ns
     ∷ row (bucket 10000 1500 (take 0 1472 ∷ refill 1000000 ∷ wait 1000000 1472 ∷ []))
     (steps (taken true 28 ∷ refilledTo 38 ∷ waits 143400000 38 ∷ []))
+    -- P2 keys A, B, A: sends A with sequence 2, then B with 1
+    ∷ row (pacer 2 4 2 10000 (hand P2 1 10 ∷ hand P2 2 20 ∷ hand P2 1 30 ∷ send ∷ send ∷ send ∷ []))
+    (acts (answered 0 ∷ answered 0 ∷ answered 0 ∷ sent 2 2 30 ∷ sent 2 1 20 ∷ nothing ∷ []))
+    -- P0 limit 2: the third is 12, a P1 record after it has sequence 3
+    ∷ row (pacer 2 4 2 10000 (hand P0 0 10 ∷ hand P0 0 10 ∷ hand P0 0 10 ∷ hand P1 0 10 ∷ send ∷ send ∷ send ∷ []))
+    (acts (answered 0 ∷ answered 0 ∷ answered 12 ∷ answered 0 ∷ sent 0 0 10 ∷ sent 0 1 10 ∷ sent 1 3 10 ∷ []))
+    -- 1,472 bytes pass, 1,473 is 3
+    ∷ row (pacer 2 4 2 10000 (hand P1 0 1472 ∷ hand P1 0 1473 ∷ send ∷ [])) (acts (answered 0 ∷ answered 3 ∷ sent 1 0 1472 ∷ []))
     ∷ []
 
 -- every row's result is what the definitions give for its input

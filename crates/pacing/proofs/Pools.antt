@@ -7,7 +7,7 @@ use mathlib.Core.Path.{_≡_, refl, ap, sym, subst, _∙_}
 use native.Mathlib.Decide.{decLe}
 use native.Mathlib.Nat.{le-refl, min-eq-left, min-eq-right, suc-mul, mul-le-mul-right}
 use native.Mathlib.Omega.{arith}
-use borrow.Author.Tests.{le-leb, lt-leb, leb-true, leb-false, lt-ltb, le-ltb, ltb-true, ltb-false}
+use borrow.Author.Tests.{le-leb, leb-true, leb-false, lt-ltb, le-ltb, ltb-true, ltb-false}
 use lib.Dec.{leb, ltb}
 use lib.ListN.{length, take, drop, set, getD, length-append, length-take, length-drop, drop-of-length-le, take-append-drop, List·getD-append}
 use lib.Seq.{take-all, drop-drop, drop-append-le, drop-at, length-take-le, take-append-seam, getD-append-add, getD-take, getD-drop, ext-getD}

@@ -2,24 +2,24 @@
 use Prim.Native.Nat.{ℕ, zero, suc, _+_, _*_, _≤_, _<_, max}
 use mathlib.Core.Bool.{Bool, true, false, cond, false≢true}
 use mathlib.Core.List.{List, [], _∷_, _++_}
-use mathlib.Core.Logic.{_≢_, _⊎_, inl, inr}
+use mathlib.Core.Logic.{_≢_}
 use mathlib.Core.Path.{_≡_, refl, sym, ap, ap₂, subst, _∙_}
 use native.Mathlib.Decide.{ℕ-discrete}
 use native.Mathlib.Omega.{arith}
-use borrow.Author.Tests.{eq-eqb, ne-eqb, eqb-false, lt-ltb, le-ltb, ltb-true, ltb-false}
+use borrow.Author.Tests.{eq-eqb, ne-eqb, eqb-false, ltb-true}
 use lib.Dec.{eqb, ltb}
 use lib.ListN.{length, getD, set, drop, replicate}
 use Rattle.config.specs.Config.{classNumber}
 use Rattle.config.specs.declared.config.Priority.{Priority}
 use Rattle.config.specs.declared.config.Priority.the-variants.{P0, P1, P2}
-use Rattle.pacing.specs.Coalescing.{afterNext, found, inserted, queueOf, replacedAt, joinedBy, insertedAt}
+use Rattle.pacing.specs.Coalescing.{afterNext, found, inserted, queueOf, replacedAt, joinedBy}
 use Rattle.pacing.specs.Entries.{pacerAt, queueAt, entryAt, entryOf, noKey, look, entered, shaped, mostOf}
 use Rattle.pacing.specs.Pool.{piece, stored, bytesOf, slotsOf, slotStart}
-use Rattle.pacing.specs.Records.{Held, heldOf, held, waiting, limitIn, Book, bookOf, emptyBook, sequenceIn, nextP2After, recordIn, keyed, listAfter, withList, bookHanded, bookSent, Shown, Shows, Parts, partsOf, Call, handIn, trySend, setRate, partsAfter, bookAfter, CallShows, AllShown}
+use Rattle.pacing.specs.Records.{Held, heldOf, held, waiting, limitIn, Book, bookOf, emptyBook, sequenceIn, nextP2After, recordIn, keyed, listAfter, withList, bookHanded, bookSent, Shows, Parts, partsOf, Call, handIn, trySend, setRate, partsAfter, bookAfter, CallShows, AllShown}
 use Rattle.pacing.specs.Ring.{isFull, newRing, slotAt, popped, pushed, roomy, nextSlot, joins, placed, keptAs, refused}
-use Rattle.pacing.specs.Window.{window, upd, contents, joinList, placeIn}
 use Rattle.pacing.specs.TokenBucket.{tried, told}
-use Rattle.pacing.specs.WriterPacer.{ringOf, withRing, frontOf, gone, paid, waited, limited, attemptP0, withQueues, withTokens, numbered, placedIn, enqueueP0, enqueueP1, enqueueP2, insertedInto, handInNoted, handInWritten, handInStored, enqueue, attempt, rateSet, sendNoted, sentBytes, made}
+use Rattle.pacing.specs.Window.{window, upd, contents, joinList, placeIn}
+use Rattle.pacing.specs.WriterPacer.{ringOf, withRing, frontOf, gone, paid, waited, limited, attemptP0, withQueues, withTokens, numbered, placedIn, enqueueP0, enqueueP1, enqueueP2, insertedInto, handInNoted, handInWritten, handInStored, enqueue, attempt, rateSet, sendNoted, made}
 use Rattle.pacing.specs.declared.coalescing.CoalescingQueue.{CoalescingQueue}
 use Rattle.pacing.specs.declared.coalescing.Inserted.{Inserted}
 use Rattle.pacing.specs.declared.coalescing.InstanceKey.{InstanceKey}

@@ -1,15 +1,15 @@
 -- What a ring holds, as a list: a push joins the tail, a full push drops the first, a pop takes the first, a replacement changes one place;
 -- and the placement rule, that the k-th record admitted takes slot k modulo the limit. Whatever the slots hold. Assumes nothing.
 use Prim.Native.Nat.{ℕ, zero, suc, _+_, _-_, _%_, _≤_, _<_, max}
-use mathlib.Core.Path.{_≡_, refl, sym, ap, ap₂, subst, _∙_}
-use mathlib.Core.List.{List, [], _∷_, _++_}
 use mathlib.Core.Bool.{Bool, true, false, cond}
+use mathlib.Core.List.{List, [], _∷_, _++_}
+use mathlib.Core.Path.{_≡_, refl, sym, ap, ap₂, subst, _∙_}
 use native.Mathlib.Nat.{mod-lt, mod-add-mod, suc-mod, add-zero}
 use native.Mathlib.Numerals.{add-one}
 use native.Mathlib.Omega.{arith}
-use lib.ListN.{length, set, drop}
+use borrow.Author.Tests.{ltb-true, ltb-false}
 use lib.Dec.{ltb}
-use borrow.Author.Tests.{ltb-true, ltb-false, lt-ltb, le-ltb}
+use lib.ListN.{length, set, drop}
 use Rattle.numeric.specs.Search.{first}
 use Rattle.pacing.specs.Ring.{newRing, slotAt, popped, roomy, added, pushed, nextSlot}
 use Rattle.pacing.specs.Window.{window, upd, contents, joinList, placeIn}

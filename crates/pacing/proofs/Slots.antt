@@ -1,11 +1,10 @@
 -- An entry written is one slot's update; other slots, other queues, other pacers and all counts stay, and counts touch no entry. Assumes nothing.
-use Prim.Native.Nat.{ℕ, zero, suc, _+_, _*_, _≤_, _<_}
-use mathlib.Core.Bool.{Bool, true, false, cond}
-use mathlib.Core.Path.{_≡_, refl, sym, ap, subst, _∙_}
+use Prim.Native.Nat.{ℕ, suc, _+_, _*_, _≤_, _<_}
+use mathlib.Core.List.{List}
 use mathlib.Core.Logic.{_≢_, _⊎_, inl, inr}
-use mathlib.Core.List.{List, [], _∷_}
-use native.Mathlib.Nat.{add-zero}
+use mathlib.Core.Path.{_≡_, refl, sym, subst, _∙_}
 use native.Mathlib.Decide.{ℕ-discrete, decLe}
+use native.Mathlib.Nat.{add-zero}
 use native.Mathlib.Omega.{arith}
 use lib.ListN.{length, getD, set, length-set}
 use lib.Seq.{getD-set-same, getD-set-other}
@@ -13,7 +12,7 @@ use Rattle.config.specs.Config.{classNumber}
 use Rattle.config.specs.declared.config.Priority.{Priority}
 use Rattle.config.specs.declared.config.Priority.the-variants.{P0, P1, P2}
 use Rattle.pacing.specs.Coalescing.{exchanged, coalescedAt, droppedAt, totalBytesAt, insertNoted, notedBy}
-use Rattle.pacing.specs.Entries.{counted, pacerAt, queueAt, entryAt, entryOf, look, entered, put2, put4, shaped, mostOf}
+use Rattle.pacing.specs.Entries.{counted, pacerAt, queueAt, entryAt, look, entered, put2, put4, shaped, mostOf}
 use Rattle.pacing.specs.Ring.{isFull}
 use Rattle.pacing.specs.Window.{upd}
 use Rattle.pacing.specs.WriterPacer.{countAt, dropNoted, classNoted, handInNoted, leftNoted, sentNoted, sendNoted}

@@ -1,15 +1,13 @@
 -- The laws of `window`, for any contents f of the slots. Assumes nothing.
-use Prim.Native.Nat.{ℕ, zero, suc, _+_, _*_, _%_, _/_, _≤_, _<_}
-use mathlib.Core.Path.{_≡_, refl, sym, ap, ap₂, _∙_}
-use mathlib.Core.Logic.{_≢_}
+use Prim.Native.Nat.{ℕ, zero, suc, _+_, _%_, _/_, _≤_, _<_}
 use mathlib.Core.List.{List, [], _∷_, _++_, map}
-use mathlib.Core.Bool.{Bool, true, false, cond}
-use native.Mathlib.Nat.{suc-mod, div-add-mod', mul-le-mul-right, add-zero, add-suc, suc-add, mod-lt, mod-mod}
+use mathlib.Core.Logic.{_≢_}
+use mathlib.Core.Path.{_≡_, refl, sym, ap, ap₂, _∙_}
 use native.Mathlib.Decide.{decLe}
+use native.Mathlib.Nat.{suc-mod, div-add-mod', mul-le-mul-right, add-zero, add-suc, suc-add, mod-mod}
 use native.Mathlib.Omega.{arith}
-use lib.ListN.{length, getD, set}
-use lib.Dec.{eqb}
 use borrow.Author.Tests.{eq-eqb, ne-eqb}
+use lib.ListN.{length, set}
 use Rattle.pacing.specs.Window.{window, upd}
 
 -- two places less than L apart have different slots

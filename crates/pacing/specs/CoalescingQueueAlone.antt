@@ -1,7 +1,7 @@
 -- A coalescing queue used alone: the numbers that may apply to each call, and what it answers and leaves
 -- (document 01, "Domain": P2 limits 1 to 128, records 0 to 1,472 bytes; "a pacer or queue alone needs its own slots"). Definitions only.
-use Prim.Native.Nat.{ℕ, _*_}
-use mathlib.Core.Bool.{Bool, cond, _||_}
+use Prim.Native.Nat.{ℕ}
+use mathlib.Core.Bool.{cond, _||_}
 use mathlib.Core.List.{List, [], _∷_}
 use lib.Dec.{ltb, eqb}
 use lib.ListN.{length, replicate}

@@ -2,8 +2,8 @@
 use Prim.Native.Nat.{ℕ, _+_, _*_, min}
 use mathlib.Core.Bool.{Bool, cond}
 use mathlib.Core.List.{List, _++_}
-use lib.ListN.{length, take, drop}
 use lib.Dec.{leb, ltb}
+use lib.ListN.{length, take, drop}
 use Rattle.config.specs.declared.config.CongestionConfig.{CongestionConfig}
 use Rattle.config.specs.declared.config.Priority.{Priority}
 use Rattle.config.specs.declared.config.Priority.the-variants.{P0, P1, P2}

@@ -3,11 +3,11 @@ use Prim.Native.Nat.{ℕ, _+_, _-_, _%_, max}
 use mathlib.Core.Bool.{Bool, true, false, cond}
 use lib.Dec.{ltb}
 use Rattle.config.specs.Refusal.{accepted, queueFull}
-use Rattle.pacing.specs.declared.ring.Ring.{Ring}
 use Rattle.pacing.specs.declared.ring.Fate.{Fate}
 use Rattle.pacing.specs.declared.ring.Fate.the-variants.{Full, Joined, PushedOut, Replaced}
 use Rattle.pacing.specs.declared.ring.Kept.{Kept}
 use Rattle.pacing.specs.declared.ring.Placed.{Placed}
+use Rattle.pacing.specs.declared.ring.Ring.{Ring}
 
 abbrev pub isFull : Fate → Bool
 isFull Full = true

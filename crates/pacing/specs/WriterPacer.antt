@@ -15,9 +15,8 @@ use Rattle.pacing.specs.Coalescing.{newQueue, queueOf, inserted, exchang
 use Rattle.pacing.specs.Entries.{pacerAt, queueAt, counted, entryOf, look, entered}
 use Rattle.pacing.specs.Pool.{limitsOf, slotStart, stored, piece}
 use Rattle.pacing.specs.Ring.{isFull, fateNumber, newRing, slotAt, popped, placed, refused}
-use Rattle.pacing.specs.TokenBucket as bucket
 use Rattle.pacing.specs.TokenBucket.{tried, forced, told, rated, resized}
-use Rattle.pacing.specs.declared.coalescing.CoalescingQueue.{CoalescingQueue}
+use Rattle.pacing.specs.TokenBucket as bucket
 use Rattle.pacing.specs.declared.coalescing.Inserted.{Inserted}
 use Rattle.pacing.specs.declared.coalescing.InstanceKey.{InstanceKey}
 use Rattle.pacing.specs.declared.entries.Entry.{Entry}
@@ -27,8 +26,8 @@ use Rattle.pacing.specs.declared.ring.Fate.the-variants.{Full, Joined, P
 use Rattle.pacing.specs.declared.ring.Kept.{Kept}
 use Rattle.pacing.specs.declared.ring.Placed.{Placed}
 use Rattle.pacing.specs.declared.ring.Ring.{Ring}
-use Rattle.pacing.specs.declared.token_bucket.Told.{Told}
 use Rattle.pacing.specs.declared.token_bucket.TokenBucket.{TokenBucket}
+use Rattle.pacing.specs.declared.token_bucket.Told.{Told}
 use Rattle.pacing.specs.declared.token_bucket.Tried.{Tried}
 use Rattle.pacing.specs.declared.writer_pacer.Attempt.{Attempt}
 use Rattle.pacing.specs.declared.writer_pacer.Enqueued.{Enqueued}

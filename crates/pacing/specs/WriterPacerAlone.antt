@@ -1,8 +1,8 @@
 -- A pacer used alone: the numbers that may apply to each call, and what it answers and leaves
 -- (document 01, "Domain" and the two lists of numbers; "a pacer or queue alone needs its own slots"). Definitions only.
 use Prim.Native.Nat.{ℕ}
-use mathlib.Core.Bool.{Bool, false, not, cond, _||_}
-use mathlib.Core.List.{List, [], _∷_, _++_}
+use mathlib.Core.Bool.{Bool, false, not, cond}
+use mathlib.Core.List.{List, [], _∷_}
 use lib.Dec.{ltb, eqb}
 use lib.ListN.{length, replicate}
 use Rattle.config.specs.Config.{settingsChecks}

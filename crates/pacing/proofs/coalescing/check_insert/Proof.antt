@@ -1,11 +1,8 @@
-use Rattle.config.specs.Refusal.{answerOf}
-use borrow.Author.Tests.{le-ltb, lt-ltb}
 use borrow.Author.Needs.{needs}
+use borrow.Author.Tests.{le-ltb, lt-ltb}
+use Rattle.config.specs.Refusal.{answerOf}
 use Rattle.pacing.proofs.coalescing.check_insert.Statement.{statement}
 use Rattle.pacing.proofs.coalescing.check_insert.Tie as tie
-use Rattle.pacing.proofs.coalescing.check_insert.Reads as reads
-use Rattle.pacing.proofs.coalescing.check_insert.Lts as lts
-use Rattle.pacing.proofs.coalescing.check_pop.Reads as check-pop-reads
 
 returns : tie.Need-returns
 unfolding answerOf

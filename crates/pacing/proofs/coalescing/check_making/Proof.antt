@@ -1,9 +1,7 @@
-use Rattle.config.specs.Refusal.{answerOf}
 use borrow.Author.Tests.{le-ltb, lt-ltb}
+use Rattle.config.specs.Refusal.{answerOf}
 use Rattle.pacing.proofs.coalescing.check_making.Statement.{statement}
 use Rattle.pacing.proofs.coalescing.check_making.Tie as tie
-use Rattle.pacing.proofs.coalescing.check_making.Reads as reads
-use Rattle.pacing.proofs.coalescing.check_making.Lts as lts
 
 returns : tie.Need-returns
 unfolding answerOf

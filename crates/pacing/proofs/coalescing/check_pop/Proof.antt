@@ -1,11 +1,7 @@
-use Rattle.config.specs.Refusal.{answerOf}
 use borrow.Author.Needs.{needs}
+use Rattle.config.specs.Refusal.{answerOf}
 use Rattle.pacing.proofs.coalescing.check_pop.Statement.{statement}
 use Rattle.pacing.proofs.coalescing.check_pop.Tie as tie
-use Rattle.pacing.proofs.coalescing.check_pop.Reads as reads
-use Rattle.pacing.proofs.coalescing.check_pop.Lts as lts
-use Rattle.config.proofs.ledger.Ledger.check_counted.Reads as check-counted-reads
-use Rattle.pacing.proofs.pool.is_short.Reads as is-short-reads
 
 is-short-requires : tie.Need-is-short-requires
 is-short-requires c κs = search needs

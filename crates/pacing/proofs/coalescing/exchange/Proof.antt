@@ -1,13 +1,7 @@
-use Rattle.pacing.specs.Coalescing.{exchanged}
 use borrow.Author.Needs.{needs}
+use Rattle.pacing.specs.Coalescing.{exchanged}
 use Rattle.pacing.proofs.coalescing.exchange.Statement.{statement}
 use Rattle.pacing.proofs.coalescing.exchange.Tie as tie
-use Rattle.pacing.proofs.coalescing.exchange.Reads as reads
-use Rattle.pacing.proofs.coalescing.exchange.Lts as lts
-use Rattle.numeric.proofs.integer.bounded_add.Reads as bounded-add-reads
-use Rattle.numeric.proofs.integer.saturating_sub.Reads as saturating-sub-reads
-use Rattle.pacing.proofs.entries.get.Reads as get-reads
-use Rattle.pacing.proofs.entries.put.Reads as put-reads
 
 add-place : tie.Need-add-place
 add-place c = search needs

@@ -1,20 +1,16 @@
-use borrow.Author.Needs.{needs}
-use Rattle.pacing.specs.Entries.{keyOfHashes}
 use Prim.Native.Nat.{ℕ, _≤_, _<_, _-_}
-use mathlib.Core.Path.{_≡_, sym}
 use mathlib.Core.Bool.{false}
 use mathlib.Core.Logic.{⊎-elim}
+use mathlib.Core.Path.{_≡_, sym}
 use native.Mathlib.Omega.{arith}
 use borrow.Author.Count.{below-none, below-more}
+use borrow.Author.Needs.{needs}
 use borrow.Author.Tests.{eq-eqb, ne-eqb}
-use Rattle.pacing.specs.Coalescing.{hit, found}
 use Rattle.numeric.proofs.Search.{first-none, first-is}
+use Rattle.pacing.specs.Coalescing.{hit, found}
+use Rattle.pacing.specs.Entries.{keyOfHashes}
 use Rattle.pacing.proofs.coalescing.find.Statement.{statement}
 use Rattle.pacing.proofs.coalescing.find.Tie as tie
-use Rattle.pacing.proofs.coalescing.find.Reads as reads
-use Rattle.pacing.proofs.coalescing.find.Lts as lts
-use Rattle.pacing.proofs.entries.look_at.Reads as look-at-reads
-use Rattle.pacing.proofs.ring.Ring.slot_at.Reads as slot-at-reads
 
 abbrev Inv-loop : tie.InvT-loop
 Inv-loop ring words at count topic hash k₀ k = (k ≤ ring .count) × ((j : ℕ) → j < k → hit ring words at (keyOfHashes topic hash) j ≡ false)

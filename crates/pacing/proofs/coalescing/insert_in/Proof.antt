@@ -1,14 +1,9 @@
-use Rattle.pacing.specs.CoalescingQueueAlone.{insertedBy, poolInsertedBy, wordsInsertedBy}
 use mathlib.Core.Path.{refl}
-use borrow.Author.Tests.{eq-eqb, ne-eqb}
 use borrow.Author.Needs.{needs}
+use borrow.Author.Tests.{ne-eqb}
+use Rattle.pacing.specs.CoalescingQueueAlone.{insertedBy, poolInsertedBy, wordsInsertedBy}
 use Rattle.pacing.proofs.coalescing.insert_in.Statement.{statement}
 use Rattle.pacing.proofs.coalescing.insert_in.Tie as tie
-use Rattle.pacing.proofs.coalescing.insert_in.Reads as reads
-use Rattle.pacing.proofs.coalescing.insert_in.Lts as lts
-use Rattle.config.proofs.ledger.Ledger.counted.Reads as counted-reads
-use Rattle.pacing.proofs.coalescing.CoalescingQueue.insert.Reads as insert-reads
-use Rattle.pacing.proofs.coalescing.write.Reads as write-reads
 
 returns : tie.Need-returns
 unfolding insertedBy wordsInsertedBy poolInsertedBy

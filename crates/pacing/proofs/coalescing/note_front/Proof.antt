@@ -1,9 +1,6 @@
 use borrow.Author.Needs.{needs}
 use Rattle.pacing.proofs.coalescing.note_front.Statement.{statement}
 use Rattle.pacing.proofs.coalescing.note_front.Tie as tie
-use Rattle.pacing.proofs.coalescing.note_front.Reads as reads
-use Rattle.pacing.proofs.coalescing.note_front.Lts as lts
-use Rattle.pacing.proofs.coalescing.exchange.Reads as exchange-reads
 
 enum-told : tie.Need-enum-told
 enum-told c = search needs

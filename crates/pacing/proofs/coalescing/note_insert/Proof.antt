@@ -1,12 +1,7 @@
-use Rattle.pacing.specs.Coalescing.{insertNoted}
 use borrow.Author.Needs.{needs}
+use Rattle.pacing.specs.Coalescing.{insertNoted}
 use Rattle.pacing.proofs.coalescing.note_insert.Statement.{statement}
 use Rattle.pacing.proofs.coalescing.note_insert.Tie as tie
-use Rattle.pacing.proofs.coalescing.note_insert.Reads as reads
-use Rattle.pacing.proofs.coalescing.note_insert.Lts as lts
-use Rattle.pacing.proofs.coalescing.exchange.Reads as exchange-reads
-use Rattle.pacing.proofs.entries.count.Reads as count-reads
-use Rattle.pacing.proofs.entries.look_at.Reads as look-at-reads
 
 look-at-requires : tie.Need-look-at-requires
 look-at-requires c κs = search needs

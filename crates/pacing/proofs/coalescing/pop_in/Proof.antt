@@ -1,15 +1,9 @@
-use Rattle.pacing.specs.CoalescingQueueAlone.{poppedBy, wordsPoppedBy}
 use mathlib.Core.Path.{refl}
-use borrow.Author.Tests.{eq-eqb, ne-eqb}
 use borrow.Author.Needs.{needs}
+use borrow.Author.Tests.{ne-eqb}
+use Rattle.pacing.specs.CoalescingQueueAlone.{poppedBy, wordsPoppedBy}
 use Rattle.pacing.proofs.coalescing.pop_in.Statement.{statement}
 use Rattle.pacing.proofs.coalescing.pop_in.Tie as tie
-use Rattle.pacing.proofs.coalescing.pop_in.Reads as reads
-use Rattle.pacing.proofs.coalescing.pop_in.Lts as lts
-use Rattle.config.proofs.ledger.Ledger.counted.Reads as counted-reads
-use Rattle.pacing.proofs.coalescing.CoalescingQueue.peek_front.Reads as peek-front-reads
-use Rattle.pacing.proofs.coalescing.CoalescingQueue.pop_front.Reads as pop-front-reads
-use Rattle.pacing.proofs.coalescing.note_front.Reads as note-front-reads
 
 returns : tie.Need-returns
 unfolding poppedBy wordsPoppedBy

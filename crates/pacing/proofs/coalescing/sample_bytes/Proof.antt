@@ -1,9 +1,6 @@
 use borrow.Author.Needs.{needs}
 use Rattle.pacing.proofs.coalescing.sample_bytes.Statement.{statement}
 use Rattle.pacing.proofs.coalescing.sample_bytes.Tie as tie
-use Rattle.pacing.proofs.coalescing.sample_bytes.Reads as reads
-use Rattle.pacing.proofs.coalescing.sample_bytes.Lts as lts
-use Rattle.pacing.proofs.pool.shown.Reads as shown-reads
 
 enum-told : tie.Need-enum-told
 enum-told c = search needs

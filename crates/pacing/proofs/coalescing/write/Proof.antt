@@ -1,12 +1,7 @@
-use Rattle.pacing.specs.CoalescingQueueAlone.{insertStored, insertWritten}
 use borrow.Author.Needs.{needs}
+use Rattle.pacing.specs.CoalescingQueueAlone.{insertStored, insertWritten}
 use Rattle.pacing.proofs.coalescing.write.Statement.{statement}
 use Rattle.pacing.proofs.coalescing.write.Tie as tie
-use Rattle.pacing.proofs.coalescing.write.Reads as reads
-use Rattle.pacing.proofs.coalescing.write.Lts as lts
-use Rattle.pacing.proofs.coalescing.note_insert.Reads as note-insert-reads
-use Rattle.pacing.proofs.entries.enter.Reads as enter-reads
-use Rattle.pacing.proofs.pool.store.Reads as store-reads
 
 note-insert-requires : tie.Need-note-insert-requires
 note-insert-requires c κs = search needs

@@ -1,12 +1,7 @@
-use Rattle.pacing.specs.Entries.{counted}
 use borrow.Author.Needs.{needs}
+use Rattle.pacing.specs.Entries.{counted}
 use Rattle.pacing.proofs.entries.count.Statement.{statement}
 use Rattle.pacing.proofs.entries.count.Tie as tie
-use Rattle.pacing.proofs.entries.count.Reads as reads
-use Rattle.pacing.proofs.entries.count.Lts as lts
-use Rattle.numeric.proofs.integer.bounded_add.Reads as bounded-add-reads
-use Rattle.pacing.proofs.entries.get.Reads as get-reads
-use Rattle.pacing.proofs.entries.put.Reads as put-reads
 
 get-requires : tie.Need-get-requires
 get-requires c κs = search needs

@@ -1,11 +1,7 @@
-use Rattle.pacing.specs.Entries.{entered}
 use borrow.Author.Needs.{needs}
+use Rattle.pacing.specs.Entries.{entered}
 use Rattle.pacing.proofs.entries.enter.Statement.{statement}
 use Rattle.pacing.proofs.entries.enter.Tie as tie
-use Rattle.pacing.proofs.entries.enter.Reads as reads
-use Rattle.pacing.proofs.entries.enter.Lts as lts
-use Rattle.pacing.proofs.entries.entry_at.Reads as entry-at-reads
-use Rattle.pacing.proofs.entries.put.Reads as put-reads
 
 entry-at-requires : tie.Need-entry-at-requires
 entry-at-requires c κs = search needs

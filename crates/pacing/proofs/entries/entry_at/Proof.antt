@@ -2,8 +2,6 @@ use native.Mathlib.Omega.{arith}
 use borrow.Author.Needs.{needs}
 use Rattle.pacing.proofs.entries.entry_at.Statement.{statement}
 use Rattle.pacing.proofs.entries.entry_at.Tie as tie
-use Rattle.pacing.proofs.entries.entry_at.Reads as reads
-use Rattle.pacing.proofs.entries.entry_at.Lts as lts
 
 enum-told : tie.Need-enum-told
 enum-told c = search needs

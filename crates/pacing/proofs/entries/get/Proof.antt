@@ -1,10 +1,8 @@
 use mathlib.Core.Path.{sym}
-use lib.ListN.{List·getD-eq-default}
 use borrow.Author.Needs.{needs}
+use lib.ListN.{List·getD-eq-default}
 use Rattle.pacing.proofs.entries.get.Statement.{statement}
 use Rattle.pacing.proofs.entries.get.Tie as tie
-use Rattle.pacing.proofs.entries.get.Reads as reads
-use Rattle.pacing.proofs.entries.get.Lts as lts
 
 mul-result : tie.Need-mul-result
 mul-result c = search needs

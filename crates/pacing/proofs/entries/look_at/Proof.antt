@@ -1,12 +1,7 @@
-use Rattle.pacing.specs.Entries.{look}
 use borrow.Author.Needs.{needs}
+use Rattle.pacing.specs.Entries.{look}
 use Rattle.pacing.proofs.entries.look_at.Statement.{statement}
 use Rattle.pacing.proofs.entries.look_at.Tie as tie
-use Rattle.pacing.proofs.entries.look_at.Reads as reads
-use Rattle.pacing.proofs.entries.look_at.Lts as lts
-use Rattle.pacing.proofs.coalescing.InstanceKey.new.Reads as new-reads
-use Rattle.pacing.proofs.entries.entry_at.Reads as entry-at-reads
-use Rattle.pacing.proofs.entries.get.Reads as get-reads
 
 entry-at-requires : tie.Need-entry-at-requires
 entry-at-requires c κs = search needs

@@ -1,10 +1,8 @@
 use mathlib.Core.Path.{sym}
-use lib.Seq.{set-out}
 use borrow.Author.Needs.{needs}
+use lib.Seq.{set-out}
 use Rattle.pacing.proofs.entries.put.Statement.{statement}
 use Rattle.pacing.proofs.entries.put.Tie as tie
-use Rattle.pacing.proofs.entries.put.Reads as reads
-use Rattle.pacing.proofs.entries.put.Lts as lts
 
 mul-words : tie.Need-mul-words
 mul-words c = search needs

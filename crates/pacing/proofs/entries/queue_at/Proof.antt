@@ -1,9 +1,6 @@
 use borrow.Author.Needs.{needs}
 use Rattle.pacing.proofs.entries.queue_at.Statement.{statement}
 use Rattle.pacing.proofs.entries.queue_at.Tie as tie
-use Rattle.pacing.proofs.entries.queue_at.Reads as reads
-use Rattle.pacing.proofs.entries.queue_at.Lts as lts
-use Rattle.pacing.proofs.entries.pacer_at.Reads as pacer-at-reads
 
 pacer-at-requires : tie.Need-pacer-at-requires
 pacer-at-requires c κs = search needs

@@ -1,18 +1,16 @@
-use Rattle.pacing.proofs.Pools.{turn}
-use Rattle.pacing.specs.Pool.{copied}
-use borrow.Author.Tests.{le-leb, lt-leb}
-use borrow.Author.Needs.{needs}
-use lib.Seq.{take-length}
-use lib.ListN.{length, take, drop, length-set}
-use native.Mathlib.Numerals.{add-one}
-use native.Mathlib.Omega.{arith}
 use Prim.Native.Nat.{_-_, _≤_, _<_}
 use mathlib.Core.List.{_++_}
 use mathlib.Core.Path.{_≡_, _∙_}
+use native.Mathlib.Numerals.{add-one}
+use native.Mathlib.Omega.{arith}
+use borrow.Author.Needs.{needs}
+use borrow.Author.Tests.{le-leb, lt-leb}
+use lib.ListN.{length, take, drop, length-set}
+use lib.Seq.{take-length}
+use Rattle.pacing.specs.Pool.{copied}
+use Rattle.pacing.proofs.Pools.{turn}
 use Rattle.pacing.proofs.pool.copy_record.Statement.{statement}
 use Rattle.pacing.proofs.pool.copy_record.Tie as tie
-use Rattle.pacing.proofs.pool.copy_record.Reads as reads
-use Rattle.pacing.proofs.pool.copy_record.Lts as lts
 
 abbrev Inv-loop : tie.InvT-loop
 Inv-loop slot₀ sample i₀ slot i = (i ≤ length sample) × ((slot ≡ take i sample ++ drop i slot₀) × (length slot ≡ length slot₀))

@@ -1,9 +1,7 @@
-use Rattle.pacing.proofs.Pools.{whole-slots}
 use Rattle.pacing.specs.Pool.{isShort}
+use Rattle.pacing.proofs.Pools.{whole-slots}
 use Rattle.pacing.proofs.pool.is_short.Statement.{statement}
 use Rattle.pacing.proofs.pool.is_short.Tie as tie
-use Rattle.pacing.proofs.pool.is_short.Reads as reads
-use Rattle.pacing.proofs.pool.is_short.Lts as lts
 
 returns : tie.Need-returns
 unfolding isShort

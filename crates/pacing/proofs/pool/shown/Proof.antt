@@ -1,11 +1,8 @@
 use native.Mathlib.Nat.{add-sub-cancel-left}
-use Rattle.pacing.proofs.Pools.{cut}
 use borrow.Author.Needs.{needs}
+use Rattle.pacing.proofs.Pools.{cut}
 use Rattle.pacing.proofs.pool.shown.Statement.{statement}
 use Rattle.pacing.proofs.pool.shown.Tie as tie
-use Rattle.pacing.proofs.pool.shown.Reads as reads
-use Rattle.pacing.proofs.pool.shown.Lts as lts
-use Rattle.pacing.proofs.pool.lesser.Reads as lesser-reads
 
 lesser-requires : tie.Need-lesser-requires
 lesser-requires c κs = search needs

@@ -1,18 +1,13 @@
-use Prim.Native.Nat.{_-_}
+use Prim.Native.Nat.{_-_, _+_, _<_, _≤_}
 use mathlib.Core.Path.{_≡_}
-use Rattle.pacing.proofs.Pools.{home}
-use Rattle.pacing.specs.Pool.{stored}
-use borrow.Author.Tests.{lt-leb}
-use native.Mathlib.Nat.{add-sub-cancel-left}
 use native.Mathlib.Omega.{arith}
-use Prim.Native.Nat.{_+_, _<_, _≤_}
-use lib.ListN.{length}
 use borrow.Author.Needs.{needs}
+use borrow.Author.Tests.{lt-leb}
+use lib.ListN.{length}
+use Rattle.pacing.specs.Pool.{stored}
+use Rattle.pacing.proofs.Pools.{home}
 use Rattle.pacing.proofs.pool.store.Statement.{statement}
 use Rattle.pacing.proofs.pool.store.Tie as tie
-use Rattle.pacing.proofs.pool.store.Reads as reads
-use Rattle.pacing.proofs.pool.store.Lts as lts
-use Rattle.pacing.proofs.pool.copy_record.Reads as copy-record-reads
 
 returns : tie.Need-returns
 unfolding stored

@@ -1,20 +1,16 @@
-use Rattle.pacing.specs.Pool.{isShort}
-use Rattle.config.specs.declared.ledger.Ledger.{Ledger}
-use Rattle.config.specs.Refusal.{Check, when, answerOf}
-use Rattle.config.proofs.Refusals.{Numbered, chain-on, chain-stop}
-use borrow.Author.Tests.{lt-ltb, le-ltb}
-use Prim.Native.Nat.{_^_}
-use lib.Dec.{ltb, leb}
-use native.Mathlib.Omega.{arith}
-use mathlib.Core.Path.{sym, _∙_}
+use Prim.Native.Nat.{_^_, ℕ}
 use mathlib.Core.List.{List, _∷_, []}
-use Prim.Native.Nat.{ℕ}
+use mathlib.Core.Path.{sym, _∙_}
+use native.Mathlib.Omega.{arith}
 use borrow.Author.Needs.{needs}
+use borrow.Author.Tests.{lt-ltb, le-ltb}
+use lib.Dec.{ltb, leb}
+use Rattle.config.proofs.Refusals.{Numbered, chain-on, chain-stop}
+use Rattle.config.specs.Refusal.{Check, when, answerOf}
+use Rattle.config.specs.declared.ledger.Ledger.{Ledger}
+use Rattle.pacing.specs.Pool.{isShort}
 use Rattle.pacing.proofs.writer_pacer.check_hand_in.Statement.{statement}
 use Rattle.pacing.proofs.writer_pacer.check_hand_in.Tie as tie
-use Rattle.pacing.proofs.writer_pacer.check_hand_in.Reads as reads
-use Rattle.pacing.proofs.writer_pacer.check_hand_in.Lts as lts
-use Rattle.pacing.proofs.writer_pacer.check_send.Reads as check-send-reads
 
 -- the checks of a send attempt, in document 01's order
 abbrev checks : Ledger → ℕ → ℕ → ℕ → List Check

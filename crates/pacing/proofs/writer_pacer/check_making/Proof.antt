@@ -1,20 +1,15 @@
+use Prim.Native.Nat.{ℕ}
+use mathlib.Core.Path.{sym, _∙_, ap}
+use native.Mathlib.Omega.{arith}
+use borrow.Author.Needs.{needs}
+use borrow.Author.Tests.{lt-ltb, le-ltb}
+use Rattle.config.proofs.Refusals.{Numbered, chain-on, chain-stop}
+use Rattle.config.specs.Config.{settingsChecks, checkedBy}
+use Rattle.config.specs.Refusal.{answerOf}
 use Rattle.config.specs.declared.config.ConfigAnswer.{ConfigAnswer}
 use Rattle.config.specs.declared.config.CongestionConfig.{CongestionConfig}
-use Rattle.config.specs.Config.{settingsChecks, checkedBy}
-use Rattle.config.specs.Refusal.{Check, when, answerOf}
-use Rattle.config.proofs.Refusals.{Numbered, chain-on, chain-stop}
-use borrow.Author.Tests.{lt-ltb, le-ltb}
-use native.Mathlib.Omega.{arith}
-use mathlib.Core.Path.{sym, _∙_, ap}
-use mathlib.Core.List.{List, _∷_, []}
-use Prim.Native.Nat.{ℕ}
-use borrow.Author.Needs.{needs}
 use Rattle.pacing.proofs.writer_pacer.check_making.Statement.{statement}
 use Rattle.pacing.proofs.writer_pacer.check_making.Tie as tie
-use Rattle.pacing.proofs.writer_pacer.check_making.Reads as reads
-use Rattle.pacing.proofs.writer_pacer.check_making.Lts as lts
-use Rattle.config.proofs.config.CongestionConfig.check.Reads as check-reads
-use Rattle.config.proofs.ledger.check_time.Reads as check-time-reads
 
 check-requires : tie.Need-check-requires
 check-requires c κs = search needs

@@ -1,11 +1,8 @@
-use Rattle.config.specs.Refusal.{answerOf}
-use borrow.Author.Tests.{le-ltb, lt-ltb}
 use borrow.Author.Needs.{needs}
+use borrow.Author.Tests.{le-ltb, lt-ltb}
+use Rattle.config.specs.Refusal.{answerOf}
 use Rattle.pacing.proofs.writer_pacer.check_rate.Statement.{statement}
 use Rattle.pacing.proofs.writer_pacer.check_rate.Tie as tie
-use Rattle.pacing.proofs.writer_pacer.check_rate.Reads as reads
-use Rattle.pacing.proofs.writer_pacer.check_rate.Lts as lts
-use Rattle.config.proofs.ledger.Ledger.check_timed.Reads as check-timed-reads
 
 returns : tie.Need-returns
 unfolding answerOf

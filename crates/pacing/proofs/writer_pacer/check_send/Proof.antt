@@ -1,12 +1,8 @@
-use Rattle.config.specs.Refusal.{answerOf}
-use borrow.Author.Tests.{le-ltb, lt-ltb}
 use borrow.Author.Needs.{needs}
+use borrow.Author.Tests.{le-ltb, lt-ltb}
+use Rattle.config.specs.Refusal.{answerOf}
 use Rattle.pacing.proofs.writer_pacer.check_send.Statement.{statement}
 use Rattle.pacing.proofs.writer_pacer.check_send.Tie as tie
-use Rattle.pacing.proofs.writer_pacer.check_send.Reads as reads
-use Rattle.pacing.proofs.writer_pacer.check_send.Lts as lts
-use Rattle.config.proofs.ledger.Ledger.check_timed.Reads as check-timed-reads
-use Rattle.pacing.proofs.pool.is_short.Reads as is-short-reads
 
 returns : tie.Need-returns
 unfolding answerOf

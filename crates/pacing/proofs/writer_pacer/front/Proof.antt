@@ -1,13 +1,7 @@
-use Rattle.pacing.specs.WriterPacer.{frontOf}
 use borrow.Author.Needs.{needs}
+use Rattle.pacing.specs.WriterPacer.{frontOf}
 use Rattle.pacing.proofs.writer_pacer.front.Statement.{statement}
 use Rattle.pacing.proofs.writer_pacer.front.Tie as tie
-use Rattle.pacing.proofs.writer_pacer.front.Reads as reads
-use Rattle.pacing.proofs.writer_pacer.front.Lts as lts
-use Rattle.pacing.proofs.entries.look_at.Reads as look-at-reads
-use Rattle.pacing.proofs.entries.queue_at.Reads as queue-at-reads
-use Rattle.pacing.proofs.ring.Ring.slot_at.Reads as slot-at-reads
-use Rattle.pacing.proofs.writer_pacer.Queues.ring.Reads as ring-reads
 
 ring-requires : tie.Need-ring-requires
 ring-requires c κs = search needs

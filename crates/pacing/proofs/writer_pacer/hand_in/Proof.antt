@@ -1,15 +1,9 @@
-use Rattle.pacing.specs.WriterPacer.{handedBy, poolHandedBy, wordsHandedBy}
 use mathlib.Core.Path.{refl}
-use borrow.Author.Tests.{eq-eqb, ne-eqb}
 use borrow.Author.Needs.{needs}
+use borrow.Author.Tests.{ne-eqb}
+use Rattle.pacing.specs.WriterPacer.{handedBy, poolHandedBy, wordsHandedBy}
 use Rattle.pacing.proofs.writer_pacer.hand_in.Statement.{statement}
 use Rattle.pacing.proofs.writer_pacer.hand_in.Tie as tie
-use Rattle.pacing.proofs.writer_pacer.hand_in.Reads as reads
-use Rattle.pacing.proofs.writer_pacer.hand_in.Lts as lts
-use Rattle.config.proofs.ledger.Ledger.moved.Reads as moved-reads
-use Rattle.pacing.proofs.ring.Fate.number.Reads as number-reads
-use Rattle.pacing.proofs.writer_pacer.PacerCore.enqueue.Reads as enqueue-reads
-use Rattle.pacing.proofs.writer_pacer.write.Reads as write-reads
 
 returns : tie.Need-returns
 unfolding handedBy wordsHandedBy poolHandedBy

@@ -1,10 +1,6 @@
 use borrow.Author.Needs.{needs}
 use Rattle.pacing.proofs.writer_pacer.note_dropped.Statement.{statement}
 use Rattle.pacing.proofs.writer_pacer.note_dropped.Tie as tie
-use Rattle.pacing.proofs.writer_pacer.note_dropped.Reads as reads
-use Rattle.pacing.proofs.writer_pacer.note_dropped.Lts as lts
-use Rattle.pacing.proofs.entries.count.Reads as count-reads
-use Rattle.pacing.proofs.writer_pacer.count_at.Reads as count-at-reads
 
 enum-told : tie.Need-enum-told
 enum-told c = search needs

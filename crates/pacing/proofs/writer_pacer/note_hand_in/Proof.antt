@@ -1,16 +1,7 @@
-use Rattle.pacing.specs.WriterPacer.{handInNoted}
 use borrow.Author.Needs.{needs}
+use Rattle.pacing.specs.WriterPacer.{handInNoted}
 use Rattle.pacing.proofs.writer_pacer.note_hand_in.Statement.{statement}
 use Rattle.pacing.proofs.writer_pacer.note_hand_in.Tie as tie
-use Rattle.pacing.proofs.writer_pacer.note_hand_in.Reads as reads
-use Rattle.pacing.proofs.writer_pacer.note_hand_in.Lts as lts
-use Rattle.config.proofs.config.Priority.number.Reads as number-reads
-use Rattle.pacing.proofs.coalescing.note_insert.Reads as note-insert-reads
-use Rattle.pacing.proofs.entries.count.Reads as count-reads
-use Rattle.pacing.proofs.entries.queue_at.Reads as queue-at-reads
-use Rattle.pacing.proofs.ring.Fate.is_full.Reads as is-full-reads
-use Rattle.pacing.proofs.writer_pacer.count_at.Reads as count-at-reads
-use Rattle.pacing.proofs.writer_pacer.note_dropped.Reads as note-dropped-reads
 
 is-full-requires : tie.Need-is-full-requires
 is-full-requires c κs = search needs

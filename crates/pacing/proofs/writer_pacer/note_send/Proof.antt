@@ -1,12 +1,7 @@
-use Rattle.pacing.specs.WriterPacer.{sendNoted}
 use borrow.Author.Needs.{needs}
+use Rattle.pacing.specs.WriterPacer.{sendNoted}
 use Rattle.pacing.proofs.writer_pacer.note_send.Statement.{statement}
 use Rattle.pacing.proofs.writer_pacer.note_send.Tie as tie
-use Rattle.pacing.proofs.writer_pacer.note_send.Reads as reads
-use Rattle.pacing.proofs.writer_pacer.note_send.Lts as lts
-use Rattle.pacing.proofs.entries.count.Reads as count-reads
-use Rattle.pacing.proofs.writer_pacer.count_at.Reads as count-at-reads
-use Rattle.pacing.proofs.writer_pacer.note_sent.Reads as note-sent-reads
 
 enum-known-action : tie.Need-enum-known-action
 enum-known-action c = search needs

@@ -1,14 +1,7 @@
-use Rattle.pacing.specs.WriterPacer.{sentNoted}
 use borrow.Author.Needs.{needs}
+use Rattle.pacing.specs.WriterPacer.{sentNoted}
 use Rattle.pacing.proofs.writer_pacer.note_sent.Statement.{statement}
 use Rattle.pacing.proofs.writer_pacer.note_sent.Tie as tie
-use Rattle.pacing.proofs.writer_pacer.note_sent.Reads as reads
-use Rattle.pacing.proofs.writer_pacer.note_sent.Lts as lts
-use Rattle.config.proofs.config.Priority.number.Reads as number-reads
-use Rattle.pacing.proofs.coalescing.exchange.Reads as exchange-reads
-use Rattle.pacing.proofs.entries.count.Reads as count-reads
-use Rattle.pacing.proofs.entries.queue_at.Reads as queue-at-reads
-use Rattle.pacing.proofs.writer_pacer.count_at.Reads as count-at-reads
 
 number-requires : tie.Need-number-requires
 number-requires c κs = search needs

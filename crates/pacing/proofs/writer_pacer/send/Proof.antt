@@ -1,14 +1,9 @@
-use Rattle.pacing.specs.WriterPacer.{attemptBy, sendNoted, sentBy, wordsSentBy}
 use mathlib.Core.Path.{refl}
-use borrow.Author.Tests.{ne-eqb}
 use borrow.Author.Needs.{needs}
+use borrow.Author.Tests.{ne-eqb}
+use Rattle.pacing.specs.WriterPacer.{attemptBy, sendNoted, sentBy, wordsSentBy}
 use Rattle.pacing.proofs.writer_pacer.send.Statement.{statement}
 use Rattle.pacing.proofs.writer_pacer.send.Tie as tie
-use Rattle.pacing.proofs.writer_pacer.send.Reads as reads
-use Rattle.pacing.proofs.writer_pacer.send.Lts as lts
-use Rattle.config.proofs.ledger.Ledger.moved.Reads as moved-reads
-use Rattle.pacing.proofs.writer_pacer.PacerCore.try_send.Reads as try-send-reads
-use Rattle.pacing.proofs.writer_pacer.note_send.Reads as note-send-reads
 
 returns : tie.Need-returns
 unfolding sentBy wordsSentBy attemptBy

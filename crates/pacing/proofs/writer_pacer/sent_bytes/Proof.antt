@@ -1,10 +1,6 @@
 use borrow.Author.Needs.{needs}
 use Rattle.pacing.proofs.writer_pacer.sent_bytes.Statement.{statement}
 use Rattle.pacing.proofs.writer_pacer.sent_bytes.Tie as tie
-use Rattle.pacing.proofs.writer_pacer.sent_bytes.Reads as reads
-use Rattle.pacing.proofs.writer_pacer.sent_bytes.Lts as lts
-use Rattle.pacing.proofs.pool.Limits.slot_start.Reads as slot-start-reads
-use Rattle.pacing.proofs.pool.shown.Reads as shown-reads
 
 enum-known-action : tie.Need-enum-known-action
 enum-known-action c = search needs

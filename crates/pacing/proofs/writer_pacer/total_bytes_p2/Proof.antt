@@ -1,10 +1,6 @@
 use borrow.Author.Needs.{needs}
 use Rattle.pacing.proofs.writer_pacer.total_bytes_p2.Statement.{statement}
 use Rattle.pacing.proofs.writer_pacer.total_bytes_p2.Tie as tie
-use Rattle.pacing.proofs.writer_pacer.total_bytes_p2.Reads as reads
-use Rattle.pacing.proofs.writer_pacer.total_bytes_p2.Lts as lts
-use Rattle.pacing.proofs.entries.get.Reads as get-reads
-use Rattle.pacing.proofs.writer_pacer.count_at.Reads as count-at-reads
 
 count-at-requires : tie.Need-count-at-requires
 count-at-requires c κs = search needs

@@ -1,13 +1,8 @@
-use Rattle.pacing.specs.WriterPacer.{paid}
-use borrow.Author.Tests.{eq-eqb, ne-eqb}
 use borrow.Author.Needs.{needs}
+use borrow.Author.Tests.{eq-eqb, ne-eqb}
+use Rattle.pacing.specs.WriterPacer.{paid}
 use Rattle.pacing.proofs.writer_pacer.try_paid.Statement.{statement}
 use Rattle.pacing.proofs.writer_pacer.try_paid.Tie as tie
-use Rattle.pacing.proofs.writer_pacer.try_paid.Reads as reads
-use Rattle.pacing.proofs.writer_pacer.try_paid.Lts as lts
-use Rattle.pacing.proofs.token_bucket.TokenBucket.try_consume.Reads as try-consume-reads
-use Rattle.pacing.proofs.writer_pacer.Queues.ring.Reads as ring-reads
-use Rattle.pacing.proofs.writer_pacer.front.Reads as front-reads
 
 ring-requires : tie.Need-ring-requires
 ring-requires c κs = search needs

@@ -1,16 +1,8 @@
-use Rattle.pacing.specs.WriterPacer.{handInStored, handInWritten}
 use mathlib.Core.Path.{refl}
 use borrow.Author.Needs.{needs}
+use Rattle.pacing.specs.WriterPacer.{handInStored, handInWritten}
 use Rattle.pacing.proofs.writer_pacer.write.Statement.{statement}
 use Rattle.pacing.proofs.writer_pacer.write.Tie as tie
-use Rattle.pacing.proofs.writer_pacer.write.Reads as reads
-use Rattle.pacing.proofs.writer_pacer.write.Lts as lts
-use Rattle.pacing.proofs.entries.enter.Reads as enter-reads
-use Rattle.pacing.proofs.entries.queue_at.Reads as queue-at-reads
-use Rattle.pacing.proofs.pool.Limits.slot_start.Reads as slot-start-reads
-use Rattle.pacing.proofs.pool.store.Reads as store-reads
-use Rattle.pacing.proofs.ring.Fate.is_full.Reads as is-full-reads
-use Rattle.pacing.proofs.writer_pacer.note_hand_in.Reads as note-hand-in-reads
 
 note-hand-in-requires : tie.Need-note-hand-in-requires
 note-hand-in-requires c κs = search needs

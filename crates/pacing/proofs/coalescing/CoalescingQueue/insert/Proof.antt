@@ -1,14 +1,8 @@
-use Rattle.pacing.specs.Coalescing.{inserted}
-use borrow.Author.Tests.{le-ltb, lt-ltb}
 use borrow.Author.Needs.{needs}
+use borrow.Author.Tests.{le-ltb, lt-ltb}
+use Rattle.pacing.specs.Coalescing.{inserted}
 use Rattle.pacing.proofs.coalescing.CoalescingQueue.insert.Statement.{statement}
 use Rattle.pacing.proofs.coalescing.CoalescingQueue.insert.Tie as tie
-use Rattle.pacing.proofs.coalescing.CoalescingQueue.insert.Reads as reads
-use Rattle.pacing.proofs.coalescing.CoalescingQueue.insert.Lts as lts
-use Rattle.numeric.proofs.integer.increment.Reads as increment-reads
-use Rattle.pacing.proofs.coalescing.find.Reads as find-reads
-use Rattle.pacing.proofs.ring.Ring.place.Reads as place-reads
-use Rattle.pacing.proofs.ring.Ring.slot_at.Reads as slot-at-reads
 
 increment-requires : tie.Need-increment-requires
 increment-requires c κs = search needs

@@ -1,9 +1,6 @@
 use borrow.Author.Needs.{needs}
 use Rattle.pacing.proofs.coalescing.CoalescingQueue.new.Statement.{statement}
 use Rattle.pacing.proofs.coalescing.CoalescingQueue.new.Tie as tie
-use Rattle.pacing.proofs.coalescing.CoalescingQueue.new.Reads as reads
-use Rattle.pacing.proofs.coalescing.CoalescingQueue.new.Lts as lts
-use Rattle.pacing.proofs.ring.Ring.new.Reads as new-reads
 
 new-requires : tie.Need-new-requires
 new-requires c κs = search needs

@@ -1,12 +1,8 @@
-use Rattle.pacing.specs.CoalescingQueueAlone.{frontIn}
-use borrow.Author.Tests.{eq-eqb, ne-eqb}
 use borrow.Author.Needs.{needs}
+use borrow.Author.Tests.{eq-eqb, ne-eqb}
+use Rattle.pacing.specs.CoalescingQueueAlone.{frontIn}
 use Rattle.pacing.proofs.coalescing.CoalescingQueue.peek_front.Statement.{statement}
 use Rattle.pacing.proofs.coalescing.CoalescingQueue.peek_front.Tie as tie
-use Rattle.pacing.proofs.coalescing.CoalescingQueue.peek_front.Reads as reads
-use Rattle.pacing.proofs.coalescing.CoalescingQueue.peek_front.Lts as lts
-use Rattle.pacing.proofs.entries.look_at.Reads as look-at-reads
-use Rattle.pacing.proofs.ring.Ring.slot_at.Reads as slot-at-reads
 
 returns : tie.Need-returns
 unfolding frontIn

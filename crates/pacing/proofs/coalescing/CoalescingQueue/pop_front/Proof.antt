@@ -1,11 +1,8 @@
-use Rattle.pacing.specs.Coalescing.{poppedFront}
-use borrow.Author.Tests.{le-ltb, lt-ltb}
 use borrow.Author.Needs.{needs}
+use borrow.Author.Tests.{le-ltb, lt-ltb}
+use Rattle.pacing.specs.Coalescing.{poppedFront}
 use Rattle.pacing.proofs.coalescing.CoalescingQueue.pop_front.Statement.{statement}
 use Rattle.pacing.proofs.coalescing.CoalescingQueue.pop_front.Tie as tie
-use Rattle.pacing.proofs.coalescing.CoalescingQueue.pop_front.Reads as reads
-use Rattle.pacing.proofs.coalescing.CoalescingQueue.pop_front.Lts as lts
-use Rattle.pacing.proofs.ring.Ring.pop.Reads as pop-reads
 
 pop-requires : tie.Need-pop-requires
 pop-requires c κs = search needs

@@ -1,12 +1,8 @@
-use Rattle.pacing.specs.CoalescingQueueAlone.{insertedAlone, poolInserted}
 use mathlib.Core.Path.{refl}
 use borrow.Author.Needs.{needs}
+use Rattle.pacing.specs.CoalescingQueueAlone.{insertedAlone, poolInserted}
 use Rattle.pacing.proofs.coalescing.CoalescingQueueAlone.insert.Statement.{statement}
 use Rattle.pacing.proofs.coalescing.CoalescingQueueAlone.insert.Tie as tie
-use Rattle.pacing.proofs.coalescing.CoalescingQueueAlone.insert.Reads as reads
-use Rattle.pacing.proofs.coalescing.CoalescingQueueAlone.insert.Lts as lts
-use Rattle.pacing.proofs.coalescing.check_insert.Reads as check-insert-reads
-use Rattle.pacing.proofs.coalescing.insert_in.Reads as insert-in-reads
 
 check-insert-requires : tie.Need-check-insert-requires
 check-insert-requires c κs = search needs

@@ -1,14 +1,8 @@
-use Rattle.pacing.specs.CoalescingQueueAlone.{madeAlone}
-use borrow.Author.Tests.{eq-eqb, ne-eqb}
 use borrow.Author.Needs.{needs}
+use borrow.Author.Tests.{eq-eqb, ne-eqb}
+use Rattle.pacing.specs.CoalescingQueueAlone.{madeAlone}
 use Rattle.pacing.proofs.coalescing.CoalescingQueueAlone.new.Statement.{statement}
 use Rattle.pacing.proofs.coalescing.CoalescingQueueAlone.new.Tie as tie
-use Rattle.pacing.proofs.coalescing.CoalescingQueueAlone.new.Reads as reads
-use Rattle.pacing.proofs.coalescing.CoalescingQueueAlone.new.Lts as lts
-use Rattle.config.proofs.ledger.Ledger.new.Reads as ledger-Ledger-new-reads
-use Rattle.pacing.proofs.coalescing.CoalescingQueue.new.Reads as coalescing-CoalescingQueue-new-reads
-use Rattle.pacing.proofs.coalescing.check_making.Reads as check-making-reads
-use Rattle.pacing.proofs.pool.limit_of.Reads as limit-of-reads
 
 check-making-requires : tie.Need-check-making-requires
 check-making-requires c κs = search needs

@@ -1,11 +1,7 @@
-use Rattle.pacing.specs.CoalescingQueueAlone.{poppedAlone}
 use borrow.Author.Needs.{needs}
+use Rattle.pacing.specs.CoalescingQueueAlone.{poppedAlone}
 use Rattle.pacing.proofs.coalescing.CoalescingQueueAlone.pop_front.Statement.{statement}
 use Rattle.pacing.proofs.coalescing.CoalescingQueueAlone.pop_front.Tie as tie
-use Rattle.pacing.proofs.coalescing.CoalescingQueueAlone.pop_front.Reads as reads
-use Rattle.pacing.proofs.coalescing.CoalescingQueueAlone.pop_front.Lts as lts
-use Rattle.pacing.proofs.coalescing.check_pop.Reads as check-pop-reads
-use Rattle.pacing.proofs.coalescing.pop_in.Reads as pop-in-reads
 
 check-pop-requires : tie.Need-check-pop-requires
 check-pop-requires c κs = search needs

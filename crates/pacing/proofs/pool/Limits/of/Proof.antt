@@ -1,9 +1,6 @@
 use borrow.Author.Needs.{needs}
 use Rattle.pacing.proofs.pool.Limits.of.Statement.{statement}
 use Rattle.pacing.proofs.pool.Limits.of.Tie as tie
-use Rattle.pacing.proofs.pool.Limits.of.Reads as reads
-use Rattle.pacing.proofs.pool.Limits.of.Lts as lts
-use Rattle.pacing.proofs.pool.limit_of.Reads as limit-of-reads
 
 limit-of-requires : tie.Need-limit-of-requires
 limit-of-requires c κs = search needs

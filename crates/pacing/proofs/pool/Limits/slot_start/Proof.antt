@@ -1,11 +1,7 @@
-use Rattle.pacing.specs.Pool.{slotStart}
 use borrow.Author.Needs.{needs}
+use Rattle.pacing.specs.Pool.{slotStart}
 use Rattle.pacing.proofs.pool.Limits.slot_start.Statement.{statement}
 use Rattle.pacing.proofs.pool.Limits.slot_start.Tie as tie
-use Rattle.pacing.proofs.pool.Limits.slot_start.Reads as reads
-use Rattle.pacing.proofs.pool.Limits.slot_start.Lts as lts
-use Rattle.pacing.proofs.pool.Limits.slots_before.Reads as slots-before-reads
-use Rattle.pacing.proofs.pool.Limits.slots_of.Reads as slots-of-reads
 
 slots-of-requires : tie.Need-slots-of-requires
 slots-of-requires c κs = search needs

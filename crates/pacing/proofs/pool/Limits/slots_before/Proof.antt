@@ -2,8 +2,6 @@ use native.Mathlib.Omega.{arith}
 use borrow.Author.Needs.{needs}
 use Rattle.pacing.proofs.pool.Limits.slots_before.Statement.{statement}
 use Rattle.pacing.proofs.pool.Limits.slots_before.Tie as tie
-use Rattle.pacing.proofs.pool.Limits.slots_before.Reads as reads
-use Rattle.pacing.proofs.pool.Limits.slots_before.Lts as lts
 
 enum-told : tie.Need-enum-told
 enum-told c = search needs

@@ -1,12 +1,9 @@
-use native.Mathlib.Omega.{arith}
-use native.Mathlib.Nat.{mul-le-mul}
 use Prim.Native.Nat.{_≤_}
+use native.Mathlib.Nat.{mul-le-mul}
+use native.Mathlib.Omega.{arith}
 use borrow.Author.Needs.{needs}
 use Rattle.pacing.proofs.pool.Limits.slots_of.Statement.{statement}
 use Rattle.pacing.proofs.pool.Limits.slots_of.Tie as tie
-use Rattle.pacing.proofs.pool.Limits.slots_of.Reads as reads
-use Rattle.pacing.proofs.pool.Limits.slots_of.Lts as lts
-use Rattle.pacing.proofs.pool.Limits.slots.Reads as slots-reads
 
 slots-requires : tie.Need-slots-requires
 slots-requires c κs = search needs

@@ -1,11 +1,7 @@
-use Rattle.pacing.specs.Ring.{nextSlot}
 use borrow.Author.Needs.{needs}
+use Rattle.pacing.specs.Ring.{nextSlot}
 use Rattle.pacing.proofs.ring.Ring.next_slot.Statement.{statement}
 use Rattle.pacing.proofs.ring.Ring.next_slot.Tie as tie
-use Rattle.pacing.proofs.ring.Ring.next_slot.Reads as reads
-use Rattle.pacing.proofs.ring.Ring.next_slot.Lts as lts
-use Rattle.pacing.proofs.ring.Ring.room.Reads as room-reads
-use Rattle.pacing.proofs.ring.Ring.slot_at.Reads as slot-at-reads
 
 room-requires : tie.Need-room-requires
 room-requires c κs = search needs

@@ -1,12 +1,8 @@
-use Rattle.pacing.specs.Ring.{joins, placed}
-use borrow.Author.Tests.{le-ltb, lt-ltb}
 use borrow.Author.Needs.{needs}
+use borrow.Author.Tests.{le-ltb, lt-ltb}
+use Rattle.pacing.specs.Ring.{joins, placed}
 use Rattle.pacing.proofs.ring.Ring.place.Statement.{statement}
 use Rattle.pacing.proofs.ring.Ring.place.Tie as tie
-use Rattle.pacing.proofs.ring.Ring.place.Reads as reads
-use Rattle.pacing.proofs.ring.Ring.place.Lts as lts
-use Rattle.pacing.proofs.ring.Ring.next_slot.Reads as next-slot-reads
-use Rattle.pacing.proofs.ring.Ring.push.Reads as push-reads
 
 next-slot-requires : tie.Need-next-slot-requires
 next-slot-requires c κs = search needs

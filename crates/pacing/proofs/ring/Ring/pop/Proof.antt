@@ -1,13 +1,9 @@
-use mathlib.Core.Path.{_≡_}
 use Prim.Native.Nat.{_-_}
+use mathlib.Core.Path.{_≡_}
 use native.Mathlib.Omega.{arith}
-use borrow.Author.Tests.{le-ltb, lt-ltb}
 use borrow.Author.Needs.{needs}
 use Rattle.pacing.proofs.ring.Ring.pop.Statement.{statement}
 use Rattle.pacing.proofs.ring.Ring.pop.Tie as tie
-use Rattle.pacing.proofs.ring.Ring.pop.Reads as reads
-use Rattle.pacing.proofs.ring.Ring.pop.Lts as lts
-use Rattle.pacing.proofs.ring.Ring.slot_at.Reads as slot-at-reads
 
 slot-at-requires : tie.Need-slot-at-requires
 slot-at-requires c κs = search needs

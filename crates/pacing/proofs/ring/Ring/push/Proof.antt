@@ -1,9 +1,6 @@
 use borrow.Author.Needs.{needs}
 use Rattle.pacing.proofs.ring.Ring.push.Statement.{statement}
 use Rattle.pacing.proofs.ring.Ring.push.Tie as tie
-use Rattle.pacing.proofs.ring.Ring.push.Reads as reads
-use Rattle.pacing.proofs.ring.Ring.push.Lts as lts
-use Rattle.pacing.proofs.ring.Ring.room.Reads as room-reads
 
 room-requires : tie.Need-room-requires
 room-requires c κs = search needs

@@ -1,12 +1,9 @@
 use native.Mathlib.Omega.{arith}
-use Rattle.pacing.specs.Ring.{roomy}
-use borrow.Author.Tests.{le-ltb, lt-ltb}
 use borrow.Author.Needs.{needs}
+use borrow.Author.Tests.{le-ltb, lt-ltb}
+use Rattle.pacing.specs.Ring.{roomy}
 use Rattle.pacing.proofs.ring.Ring.room.Statement.{statement}
 use Rattle.pacing.proofs.ring.Ring.room.Tie as tie
-use Rattle.pacing.proofs.ring.Ring.room.Reads as reads
-use Rattle.pacing.proofs.ring.Ring.room.Lts as lts
-use Rattle.pacing.proofs.ring.Ring.pop.Reads as pop-reads
 
 pop-requires : tie.Need-pop-requires
 pop-requires c κs = search needs

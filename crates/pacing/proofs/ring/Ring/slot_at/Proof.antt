@@ -1,14 +1,10 @@
-use Prim.Native.Nat.{_+_, _%_, _<_}
-use mir.Facts.{fits-mod}
+use Prim.Native.Nat.{_+_, _<_}
 use mathlib.Core.Path.{sym}
+use native.Mathlib.Nat.{mod-eq-of-lt, mod-lt}
 use native.Mathlib.Omega.{arith}
-use native.Mathlib.Nat.{mod-eq-of-lt, mod-le, mod-lt}
 use borrow.Author.Needs.{needs}
 use Rattle.pacing.proofs.ring.Ring.slot_at.Statement.{statement}
 use Rattle.pacing.proofs.ring.Ring.slot_at.Tie as tie
-use Rattle.pacing.proofs.ring.Ring.slot_at.Reads as reads
-use Rattle.pacing.proofs.ring.Ring.slot_at.Lts as lts
-use Rattle.pacing.proofs.ring.Ring.size.Reads as size-reads
 
 size-requires : tie.Need-size-requires
 size-requires c κs = search needs

@@ -1,9 +1,6 @@
 use borrow.Author.Needs.{needs}
 use Rattle.pacing.proofs.writer_pacer.PacerConfig.of.Statement.{statement}
 use Rattle.pacing.proofs.writer_pacer.PacerConfig.of.Tie as tie
-use Rattle.pacing.proofs.writer_pacer.PacerConfig.of.Reads as reads
-use Rattle.pacing.proofs.writer_pacer.PacerConfig.of.Lts as lts
-use Rattle.pacing.proofs.pool.Limits.of.Reads as of-reads
 
 of-requires : tie.Need-of-requires
 of-requires c κs = search needs

@@ -1,13 +1,7 @@
-use Rattle.pacing.specs.WriterPacer.{enqueue}
 use borrow.Author.Needs.{needs}
+use Rattle.pacing.specs.WriterPacer.{enqueue}
 use Rattle.pacing.proofs.writer_pacer.PacerCore.enqueue.Statement.{statement}
 use Rattle.pacing.proofs.writer_pacer.PacerCore.enqueue.Tie as tie
-use Rattle.pacing.proofs.writer_pacer.PacerCore.enqueue.Reads as reads
-use Rattle.pacing.proofs.writer_pacer.PacerCore.enqueue.Lts as lts
-use Rattle.pacing.proofs.writer_pacer.PacerCore.enqueue_p0.Reads as enqueue-p0-reads
-use Rattle.pacing.proofs.writer_pacer.PacerCore.enqueue_p1.Reads as enqueue-p1-reads
-use Rattle.pacing.proofs.writer_pacer.PacerCore.enqueue_p2.Reads as enqueue-p2-reads
-use Rattle.pacing.proofs.writer_pacer.PacerCore.numbered.Reads as numbered-reads
 
 numbered-requires : tie.Need-numbered-requires
 numbered-requires c κs = search needs

@@ -1,11 +1,8 @@
-use Rattle.pacing.specs.WriterPacer.{enqueueP0}
-use borrow.Author.Tests.{le-ltb, lt-ltb}
 use borrow.Author.Needs.{needs}
+use borrow.Author.Tests.{le-ltb, lt-ltb}
+use Rattle.pacing.specs.WriterPacer.{enqueueP0}
 use Rattle.pacing.proofs.writer_pacer.PacerCore.enqueue_p0.Statement.{statement}
 use Rattle.pacing.proofs.writer_pacer.PacerCore.enqueue_p0.Tie as tie
-use Rattle.pacing.proofs.writer_pacer.PacerCore.enqueue_p0.Reads as reads
-use Rattle.pacing.proofs.writer_pacer.PacerCore.enqueue_p0.Lts as lts
-use Rattle.pacing.proofs.writer_pacer.PacerCore.place_in.Reads as place-in-reads
 
 place-in-requires : tie.Need-place-in-requires
 place-in-requires c κs = search needs

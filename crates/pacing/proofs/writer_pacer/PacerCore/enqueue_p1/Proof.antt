@@ -1,10 +1,7 @@
-use Rattle.pacing.specs.WriterPacer.{enqueueP1}
 use borrow.Author.Needs.{needs}
+use Rattle.pacing.specs.WriterPacer.{enqueueP1}
 use Rattle.pacing.proofs.writer_pacer.PacerCore.enqueue_p1.Statement.{statement}
 use Rattle.pacing.proofs.writer_pacer.PacerCore.enqueue_p1.Tie as tie
-use Rattle.pacing.proofs.writer_pacer.PacerCore.enqueue_p1.Reads as reads
-use Rattle.pacing.proofs.writer_pacer.PacerCore.enqueue_p1.Lts as lts
-use Rattle.pacing.proofs.writer_pacer.PacerCore.place_in.Reads as place-in-reads
 
 place-in-requires : tie.Need-place-in-requires
 place-in-requires c κs = search needs

@@ -1,11 +1,7 @@
-use Rattle.pacing.specs.WriterPacer.{enqueueP2}
 use borrow.Author.Needs.{needs}
+use Rattle.pacing.specs.WriterPacer.{enqueueP2}
 use Rattle.pacing.proofs.writer_pacer.PacerCore.enqueue_p2.Statement.{statement}
 use Rattle.pacing.proofs.writer_pacer.PacerCore.enqueue_p2.Tie as tie
-use Rattle.pacing.proofs.writer_pacer.PacerCore.enqueue_p2.Reads as reads
-use Rattle.pacing.proofs.writer_pacer.PacerCore.enqueue_p2.Lts as lts
-use Rattle.pacing.proofs.coalescing.CoalescingQueue.insert.Reads as insert-reads
-use Rattle.pacing.proofs.entries.queue_at.Reads as queue-at-reads
 
 queue-at-requires : tie.Need-queue-at-requires
 queue-at-requires c κs = search needs

@@ -1,14 +1,7 @@
-use Rattle.pacing.specs.WriterPacer.{gone}
 use borrow.Author.Needs.{needs}
+use Rattle.pacing.specs.WriterPacer.{gone}
 use Rattle.pacing.proofs.writer_pacer.PacerCore.gone.Statement.{statement}
 use Rattle.pacing.proofs.writer_pacer.PacerCore.gone.Tie as tie
-use Rattle.pacing.proofs.writer_pacer.PacerCore.gone.Reads as reads
-use Rattle.pacing.proofs.writer_pacer.PacerCore.gone.Lts as lts
-use Rattle.pacing.proofs.ring.Ring.pop.Reads as pop-reads
-use Rattle.pacing.proofs.ring.Ring.slot_at.Reads as slot-at-reads
-use Rattle.pacing.proofs.writer_pacer.Queues.ring.Reads as ring-reads
-use Rattle.pacing.proofs.writer_pacer.Queues.with_ring.Reads as with-ring-reads
-use Rattle.pacing.proofs.writer_pacer.front.Reads as front-reads
 
 ring-requires : tie.Need-ring-requires
 ring-requires c κs = search needs

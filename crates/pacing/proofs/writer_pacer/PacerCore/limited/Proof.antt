@@ -1,12 +1,8 @@
-use Rattle.pacing.specs.WriterPacer.{limited}
-use borrow.Author.Tests.{le-ltb, lt-ltb}
 use borrow.Author.Needs.{needs}
+use borrow.Author.Tests.{le-ltb, lt-ltb}
+use Rattle.pacing.specs.WriterPacer.{limited}
 use Rattle.pacing.proofs.writer_pacer.PacerCore.limited.Statement.{statement}
 use Rattle.pacing.proofs.writer_pacer.PacerCore.limited.Tie as tie
-use Rattle.pacing.proofs.writer_pacer.PacerCore.limited.Reads as reads
-use Rattle.pacing.proofs.writer_pacer.PacerCore.limited.Lts as lts
-use Rattle.pacing.proofs.writer_pacer.PacerCore.waited.Reads as waited-reads
-use Rattle.pacing.proofs.writer_pacer.front.Reads as front-reads
 
 front-requires : tie.Need-front-requires
 front-requires c κs = search needs

@@ -1,9 +1,6 @@
 use borrow.Author.Needs.{needs}
 use Rattle.pacing.proofs.writer_pacer.PacerCore.numbered.Statement.{statement}
 use Rattle.pacing.proofs.writer_pacer.PacerCore.numbered.Tie as tie
-use Rattle.pacing.proofs.writer_pacer.PacerCore.numbered.Reads as reads
-use Rattle.pacing.proofs.writer_pacer.PacerCore.numbered.Lts as lts
-use Rattle.numeric.proofs.integer.increment.Reads as increment-reads
 
 increment-requires : tie.Need-increment-requires
 increment-requires c κs = search needs

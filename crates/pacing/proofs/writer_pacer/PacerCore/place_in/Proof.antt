@@ -1,12 +1,7 @@
-use Rattle.pacing.specs.WriterPacer.{placedIn}
 use borrow.Author.Needs.{needs}
+use Rattle.pacing.specs.WriterPacer.{placedIn}
 use Rattle.pacing.proofs.writer_pacer.PacerCore.place_in.Statement.{statement}
 use Rattle.pacing.proofs.writer_pacer.PacerCore.place_in.Tie as tie
-use Rattle.pacing.proofs.writer_pacer.PacerCore.place_in.Reads as reads
-use Rattle.pacing.proofs.writer_pacer.PacerCore.place_in.Lts as lts
-use Rattle.pacing.proofs.ring.Ring.place.Reads as place-reads
-use Rattle.pacing.proofs.writer_pacer.Queues.ring.Reads as ring-reads
-use Rattle.pacing.proofs.writer_pacer.Queues.with_ring.Reads as with-ring-reads
 
 ring-requires : tie.Need-ring-requires
 ring-requires c κs = search needs

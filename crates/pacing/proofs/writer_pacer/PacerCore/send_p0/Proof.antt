@@ -1,13 +1,7 @@
-use Rattle.pacing.specs.WriterPacer.{attemptP0}
 use borrow.Author.Needs.{needs}
+use Rattle.pacing.specs.WriterPacer.{attemptP0}
 use Rattle.pacing.proofs.writer_pacer.PacerCore.send_p0.Statement.{statement}
 use Rattle.pacing.proofs.writer_pacer.PacerCore.send_p0.Tie as tie
-use Rattle.pacing.proofs.writer_pacer.PacerCore.send_p0.Reads as reads
-use Rattle.pacing.proofs.writer_pacer.PacerCore.send_p0.Lts as lts
-use Rattle.pacing.proofs.token_bucket.TokenBucket.force_consume.Reads as force-consume-reads
-use Rattle.pacing.proofs.token_bucket.TokenBucket.try_consume.Reads as try-consume-reads
-use Rattle.pacing.proofs.writer_pacer.PacerCore.gone.Reads as gone-reads
-use Rattle.pacing.proofs.writer_pacer.front.Reads as front-reads
 
 front-requires : tie.Need-front-requires
 front-requires c κs = search needs

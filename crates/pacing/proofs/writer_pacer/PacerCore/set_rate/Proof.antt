@@ -1,13 +1,7 @@
-use Rattle.pacing.specs.WriterPacer.{rateSet}
 use borrow.Author.Needs.{needs}
+use Rattle.pacing.specs.WriterPacer.{rateSet}
 use Rattle.pacing.proofs.writer_pacer.PacerCore.set_rate.Statement.{statement}
 use Rattle.pacing.proofs.writer_pacer.PacerCore.set_rate.Tie as tie
-use Rattle.pacing.proofs.writer_pacer.PacerCore.set_rate.Reads as reads
-use Rattle.pacing.proofs.writer_pacer.PacerCore.set_rate.Lts as lts
-use Rattle.pacing.proofs.token_bucket.TokenBucket.set_capacity.Reads as set-capacity-reads
-use Rattle.pacing.proofs.token_bucket.TokenBucket.set_rate.Reads as set-rate-reads
-use Rattle.pacing.proofs.writer_pacer.burst.Reads as burst-reads
-use Rattle.pacing.proofs.writer_pacer.clamped.Reads as clamped-reads
 
 clamped-requires : tie.Need-clamped-requires
 clamped-requires c κs = search needs

@@ -1,14 +1,8 @@
-use Rattle.pacing.specs.WriterPacer.{attempt}
-use borrow.Author.Tests.{le-ltb, lt-ltb}
 use borrow.Author.Needs.{needs}
+use borrow.Author.Tests.{le-ltb, lt-ltb}
+use Rattle.pacing.specs.WriterPacer.{attempt}
 use Rattle.pacing.proofs.writer_pacer.PacerCore.try_send.Statement.{statement}
 use Rattle.pacing.proofs.writer_pacer.PacerCore.try_send.Tie as tie
-use Rattle.pacing.proofs.writer_pacer.PacerCore.try_send.Reads as reads
-use Rattle.pacing.proofs.writer_pacer.PacerCore.try_send.Lts as lts
-use Rattle.pacing.proofs.writer_pacer.PacerCore.gone.Reads as gone-reads
-use Rattle.pacing.proofs.writer_pacer.PacerCore.limited.Reads as limited-reads
-use Rattle.pacing.proofs.writer_pacer.PacerCore.send_p0.Reads as send-p0-reads
-use Rattle.pacing.proofs.writer_pacer.try_paid.Reads as try-paid-reads
 
 send-p0-requires : tie.Need-send-p0-requires
 send-p0-requires c κs = search needs

@@ -1,11 +1,8 @@
-use Rattle.pacing.specs.WriterPacer.{waited}
-use borrow.Author.Tests.{le-ltb, lt-ltb}
 use borrow.Author.Needs.{needs}
+use borrow.Author.Tests.{le-ltb, lt-ltb}
+use Rattle.pacing.specs.WriterPacer.{waited}
 use Rattle.pacing.proofs.writer_pacer.PacerCore.waited.Statement.{statement}
 use Rattle.pacing.proofs.writer_pacer.PacerCore.waited.Tie as tie
-use Rattle.pacing.proofs.writer_pacer.PacerCore.waited.Reads as reads
-use Rattle.pacing.proofs.writer_pacer.PacerCore.waited.Lts as lts
-use Rattle.pacing.proofs.token_bucket.TokenBucket.time_until_available.Reads as time-until-available-reads
 
 time-until-available-requires : tie.Need-time-until-available-requires
 time-until-available-requires c κs = search needs

@@ -1,12 +1,6 @@
 use borrow.Author.Needs.{needs}
 use Rattle.pacing.proofs.writer_pacer.PacerCore.with_rate.Statement.{statement}
 use Rattle.pacing.proofs.writer_pacer.PacerCore.with_rate.Tie as tie
-use Rattle.pacing.proofs.writer_pacer.PacerCore.with_rate.Reads as reads
-use Rattle.pacing.proofs.writer_pacer.PacerCore.with_rate.Lts as lts
-use Rattle.pacing.proofs.coalescing.CoalescingQueue.new.Reads as coalescing-CoalescingQueue-new-reads
-use Rattle.pacing.proofs.ring.Ring.new.Reads as ring-Ring-new-reads
-use Rattle.pacing.proofs.token_bucket.TokenBucket.new.Reads as token-bucket-TokenBucket-new-reads
-use Rattle.pacing.proofs.writer_pacer.burst.Reads as burst-reads
 
 new-requires : tie.Need-new-requires
 new-requires c κs = search needs

@@ -1,8 +1,6 @@
 use borrow.Author.Needs.{needs}
 use Rattle.pacing.proofs.writer_pacer.Queues.with_ring.Statement.{statement}
 use Rattle.pacing.proofs.writer_pacer.Queues.with_ring.Tie as tie
-use Rattle.pacing.proofs.writer_pacer.Queues.with_ring.Reads as reads
-use Rattle.pacing.proofs.writer_pacer.Queues.with_ring.Lts as lts
 
 enum-told : tie.Need-enum-told
 enum-told c = search needs

@@ -1,10 +1,6 @@
 use borrow.Author.Needs.{needs}
 use Rattle.pacing.proofs.writer_pacer.WriterPacerAlone.enqueue.Statement.{statement}
 use Rattle.pacing.proofs.writer_pacer.WriterPacerAlone.enqueue.Tie as tie
-use Rattle.pacing.proofs.writer_pacer.WriterPacerAlone.enqueue.Reads as reads
-use Rattle.pacing.proofs.writer_pacer.WriterPacerAlone.enqueue.Lts as lts
-use Rattle.pacing.proofs.coalescing.InstanceKey.keyless.Reads as keyless-reads
-use Rattle.pacing.proofs.writer_pacer.WriterPacerAlone.enqueue_as.Reads as enqueue-as-reads
 
 slice-aggregate-keyless : tie.Need-slice-aggregate-keyless
 slice-aggregate-keyless c = search needs

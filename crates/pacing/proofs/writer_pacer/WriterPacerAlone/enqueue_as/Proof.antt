@@ -1,13 +1,8 @@
-use Rattle.pacing.specs.WriterPacerAlone.{handedAlone, poolHanded}
 use mathlib.Core.Path.{refl}
 use borrow.Author.Needs.{needs}
+use Rattle.pacing.specs.WriterPacerAlone.{handedAlone, poolHanded}
 use Rattle.pacing.proofs.writer_pacer.WriterPacerAlone.enqueue_as.Statement.{statement}
 use Rattle.pacing.proofs.writer_pacer.WriterPacerAlone.enqueue_as.Tie as tie
-use Rattle.pacing.proofs.writer_pacer.WriterPacerAlone.enqueue_as.Reads as reads
-use Rattle.pacing.proofs.writer_pacer.WriterPacerAlone.enqueue_as.Lts as lts
-use Rattle.pacing.proofs.pool.Limits.slots.Reads as slots-reads
-use Rattle.pacing.proofs.writer_pacer.check_hand_in.Reads as check-hand-in-reads
-use Rattle.pacing.proofs.writer_pacer.hand_in_alone.Reads as hand-in-alone-reads
 
 slots-requires : tie.Need-slots-requires
 slots-requires c κs = search needs

@@ -1,13 +1,8 @@
-use Rattle.pacing.specs.WriterPacerAlone.{ratedAlone}
-use borrow.Author.Tests.{eq-eqb, ne-eqb}
 use borrow.Author.Needs.{needs}
+use borrow.Author.Tests.{eq-eqb, ne-eqb}
+use Rattle.pacing.specs.WriterPacerAlone.{ratedAlone}
 use Rattle.pacing.proofs.writer_pacer.WriterPacerAlone.set_rate.Statement.{statement}
 use Rattle.pacing.proofs.writer_pacer.WriterPacerAlone.set_rate.Tie as tie
-use Rattle.pacing.proofs.writer_pacer.WriterPacerAlone.set_rate.Reads as reads
-use Rattle.pacing.proofs.writer_pacer.WriterPacerAlone.set_rate.Lts as lts
-use Rattle.config.proofs.ledger.Ledger.moved.Reads as moved-reads
-use Rattle.pacing.proofs.writer_pacer.PacerCore.set_rate.Reads as set-rate-reads
-use Rattle.pacing.proofs.writer_pacer.check_rate.Reads as check-rate-reads
 
 check-rate-requires : tie.Need-check-rate-requires
 check-rate-requires c κs = search needs

@@ -1,12 +1,7 @@
-use Rattle.pacing.specs.WriterPacerAlone.{sentAlone}
 use borrow.Author.Needs.{needs}
+use Rattle.pacing.specs.WriterPacerAlone.{sentAlone}
 use Rattle.pacing.proofs.writer_pacer.WriterPacerAlone.try_send.Statement.{statement}
 use Rattle.pacing.proofs.writer_pacer.WriterPacerAlone.try_send.Tie as tie
-use Rattle.pacing.proofs.writer_pacer.WriterPacerAlone.try_send.Reads as reads
-use Rattle.pacing.proofs.writer_pacer.WriterPacerAlone.try_send.Lts as lts
-use Rattle.pacing.proofs.pool.Limits.slots.Reads as slots-reads
-use Rattle.pacing.proofs.writer_pacer.check_send.Reads as check-send-reads
-use Rattle.pacing.proofs.writer_pacer.send_alone.Reads as send-alone-reads
 
 slots-requires : tie.Need-slots-requires
 slots-requires c κs = search needs

@@ -1,16 +1,8 @@
-use Rattle.pacing.specs.WriterPacerAlone.{madeAlone}
-use borrow.Author.Tests.{eq-eqb, ne-eqb}
 use borrow.Author.Needs.{needs}
+use borrow.Author.Tests.{ne-eqb}
+use Rattle.pacing.specs.WriterPacerAlone.{madeAlone}
 use Rattle.pacing.proofs.writer_pacer.WriterPacerAlone.with_rate.Statement.{statement}
 use Rattle.pacing.proofs.writer_pacer.WriterPacerAlone.with_rate.Tie as tie
-use Rattle.pacing.proofs.writer_pacer.WriterPacerAlone.with_rate.Reads as reads
-use Rattle.pacing.proofs.writer_pacer.WriterPacerAlone.with_rate.Lts as lts
-use Rattle.config.proofs.ledger.Ledger.new.Reads as new-reads
-use Rattle.pacing.proofs.pool.Limits.of.Reads as pool-Limits-of-reads
-use Rattle.pacing.proofs.writer_pacer.PacerConfig.of.Reads as writer-pacer-PacerConfig-of-reads
-use Rattle.pacing.proofs.writer_pacer.PacerCore.with_rate.Reads as with-rate-reads
-use Rattle.pacing.proofs.writer_pacer.check_making.Reads as check-making-reads
-use Rattle.pacing.proofs.writer_pacer.zero.Reads as zero-reads
 
 check-making-requires : tie.Need-check-making-requires
 check-making-requires c κs = search needs
