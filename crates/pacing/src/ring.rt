@@ -4,8 +4,9 @@ ghost use Prim.Native.Nat.{_<_, max};
 ghost use Rattle.pacing.specs.Ring.{isFull, fateNumber, newRing, slotAt, popped, roomy, pushed, nextSlot, placed};
 use config::refusal;
 
+// The head has twice the width it needs, so that a ring is eight bytes and is moved at once.
 pub struct Ring {
-    pub(crate) head: u16,
+    pub(crate) head: u32,
     pub(crate) count: u16,
     pub(crate) limit: u16,
 }
@@ -77,8 +78,8 @@ impl Ring {
     pub fn slot_at(self, place: u16) -> u16
         ensures { λ r. ⌜ r ≡ slotAt self place ⌝ }
     {
-        let n = self.size() as u32;
-        let at = self.head as u32 + place as u32;
+        let n = self.size() as u64;
+        let at = self.head as u64 + place as u64;
         if at < n { at as u16 } else { (at % n) as u16 }
     }
 
@@ -89,7 +90,7 @@ impl Ring {
         let head = self.slot_at(1);
         let count = self.count;
         Ring {
-            head,
+            head: head as u32,
             count: if 0 < count { count - 1 } else { 0 },
             limit: self.limit,
         }

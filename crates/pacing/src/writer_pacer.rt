@@ -601,16 +601,16 @@ fn write(
 
 // The parts of a pacer that a call changes by value, with its answer.
 pub struct Handed {
-    pub answer: u8,
     pub ledger: Ledger,
     pub core: PacerCore,
+    pub answer: u8,
 }
 
 pub struct SendTried {
-    pub answer: u8,
     pub ledger: Ledger,
     pub core: PacerCore,
     pub action: SendAction,
+    pub answer: u8,
 }
 
 // A hand-in on the parts that it touches, once the checks have answered. 12 counts as an accepted call.
