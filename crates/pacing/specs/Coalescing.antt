@@ -11,6 +11,7 @@ use Rattle.numeric.specs.Search.{first}
 use Rattle.pacing.specs.Entries.{counted, look}
 use Rattle.pacing.specs.Ring.{newRing, slotAt, popped, placed, keptAs}
 use Rattle.pacing.specs.declared.coalescing.CoalescingQueue.{CoalescingQueue}
+use Rattle.pacing.specs.declared.coalescing.CoalescingStats.{CoalescingStats}
 use Rattle.pacing.specs.declared.coalescing.Inserted.{Inserted}
 use Rattle.pacing.specs.declared.coalescing.InstanceKey.{InstanceKey}
 use Rattle.pacing.specs.declared.ring.Fate.{Fate}
@@ -115,3 +116,13 @@ notedBy l at leave Replaced n = exchanged (counted l (coalescedAt at) 1) at leav
 
 unfoldable pub insertNoted : List ℕ → ℕ → Kept → ℕ → List ℕ
 insertNoted l at kept n = notedBy l at (look l at P2 (kept .slot) .length) (kept .fate) n
+
+-- the Rust's statistics, without the fill ratio
+abbrev pub statsIn : CoalescingQueue → List ℕ → ℕ → CoalescingStats
+statsIn q l at =
+    record {
+      instances = q .ring .count;
+      bytes = getD l (totalBytesAt at) 0;
+      coalesced = getD l (coalescedAt at) 0;
+      dropped = getD l (droppedAt at) 0;
+    }

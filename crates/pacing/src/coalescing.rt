@@ -2,7 +2,7 @@
 ghost use mathlib.Core.Path.{_≡_};
 ghost use lib.ListN.{length};
 ghost use Rattle.config.specs.Refusal.{answerOf};
-ghost use Rattle.pacing.specs.Coalescing.{fnv1a, joined, keyOf, keylessOf, newQueue, found, inserted, poppedFront, exchanged, insertNoted};
+ghost use Rattle.pacing.specs.Coalescing.{fnv1a, joined, keyOf, keylessOf, newQueue, found, inserted, poppedFront, exchanged, insertNoted, statsIn};
 ghost use Rattle.pacing.specs.CoalescingQueueAlone.{frontIn, makingChecks, insertChecks, popChecks, insertWritten, insertStored, insertedBy, wordsInsertedBy, poolInsertedBy, frontNoted, poppedBy, wordsPoppedBy, madeAlone, resumedAlone, insertedAlone, poolInserted, poppedAlone, peekedAlone, shownBytes};
 use crate::entries;
 use crate::entries::Entry;
@@ -102,6 +102,14 @@ pub enum Front {
         topic_hash: u64,
         key_hash: u64,
     },
+}
+
+// The Rust's statistics, without the fill ratio.
+pub struct CoalescingStats {
+    pub instances: u16,
+    pub bytes: u64,
+    pub coalesced: u64,
+    pub dropped: u64,
 }
 
 pub struct Inserted {
@@ -210,6 +218,17 @@ impl CoalescingQueue {
         }
     }
 
+    pub fn stats(self, words: &[u64], at: u32) -> CoalescingStats
+        ensures { λ r. ⌜ r ≡ statsIn self (now (words .entry)) at ⌝ }
+    {
+        CoalescingStats {
+            instances: self.ring.count,
+            bytes: entries::get(words, at as usize + TOTAL_BYTES),
+            coalesced: entries::get(words, at as usize + COALESCED),
+            dropped: entries::get(words, at as usize + DROPPED),
+        }
+    }
+
     pub fn ring(self) -> Ring
         ensures { λ r. ⌜ r ≡ self .ring ⌝ }
     {
@@ -268,7 +287,7 @@ pub(crate) fn note_insert(words: &mut [u64], at: u32, kept: Kept, length: u64)
 pub struct CoalescingQueueAlone {
     ledger: Ledger,
     queue: CoalescingQueue,
-    words: [u64; 515],
+    words: [u64; QUEUE_WORDS],
 }
 
 // The answer number and what a call leaves.
@@ -351,7 +370,7 @@ fn insert_in(
     answer: u8,
     ledger: Ledger,
     queue: CoalescingQueue,
-    words: &mut [u64; 515],
+    words: &mut [u64; QUEUE_WORDS],
     pool: &mut [u8],
     key: InstanceKey,
     sample: &[u8],
@@ -400,7 +419,12 @@ fn note_front(words: &mut [u64], front: Front)
 }
 
 // A pop on the parts that it touches, once the checks have answered.
-fn pop_in(answer: u8, ledger: Ledger, queue: CoalescingQueue, words: &mut [u64; 515]) -> QueuePopped
+fn pop_in(
+    answer: u8,
+    ledger: Ledger,
+    queue: CoalescingQueue,
+    words: &mut [u64; QUEUE_WORDS],
+) -> QueuePopped
     ensures { λ r. ⌜ r ≡ poppedBy answer ledger queue (now (words .entry)) ⌝ }
     ensures { λ _. ⌜ now (words .exit) ≡ wordsPoppedBy answer queue (now (words .entry)) ⌝ }
 {
@@ -434,7 +458,7 @@ impl CoalescingQueueAlone {
                 alone: CoalescingQueueAlone {
                     ledger: Ledger::new(0),
                     queue: CoalescingQueue::new(0),
-                    words: [0; 515],
+                    words: [0; QUEUE_WORDS],
                 },
             };
         }
@@ -443,7 +467,7 @@ impl CoalescingQueueAlone {
             alone: CoalescingQueueAlone {
                 ledger: Ledger::new(0),
                 queue: CoalescingQueue::new(pool::limit_of(max_instances)),
-                words: [0; 515],
+                words: [0; QUEUE_WORDS],
             },
         }
     }
@@ -520,8 +544,15 @@ impl CoalescingQueueAlone {
         self.queue
     }
 
-    // Entries and counts, for `entries::look_at` and `stats`.
-    pub fn words(self) -> [u64; 515]
+    // How many samples wait and with how many bytes, and how many were replaced and pushed out.
+    pub fn stats(self) -> CoalescingStats
+        ensures { λ r. ⌜ r ≡ statsIn (self .queue) (self .words) 0 ⌝ }
+    {
+        self.queue.stats(&self.words, 0)
+    }
+
+    // Entries and counts, for `entries::look_at`.
+    pub fn words(self) -> [u64; QUEUE_WORDS]
         ensures { λ r. ⌜ r ≡ self .words ⌝ }
     {
         self.words

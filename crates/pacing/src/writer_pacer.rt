@@ -11,6 +11,7 @@ use crate::coalescing::CoalescingQueue;
 use crate::coalescing::InstanceKey;
 use crate::entries;
 use crate::entries::Entry;
+use crate::entries::PACER_WORDS;
 use crate::pool;
 use crate::pool::Limits;
 use crate::ring::Fate;
@@ -778,7 +779,7 @@ pub struct WriterPacerAlone {
     ledger: Ledger,
     config: PacerConfig,
     core: PacerCore,
-    words: [u64; 1805],
+    words: [u64; PACER_WORDS],
 }
 
 // The answer number and what a call leaves.
@@ -800,7 +801,7 @@ fn hand_in_alone(
     ledger: Ledger,
     core: PacerCore,
     limits: Limits,
-    words: &mut [u64; 1805],
+    words: &mut [u64; PACER_WORDS],
     pool: &mut [u8],
     time: u64,
     class: Priority,
@@ -832,7 +833,7 @@ fn send_alone(
     enabled: bool,
     ledger: Ledger,
     core: PacerCore,
-    words: &mut [u64; 1805],
+    words: &mut [u64; PACER_WORDS],
     time: u64,
 ) -> SendTried
     ensures { λ r. ⌜ r ≡ sentBy answer enabled ledger core (now (words .entry)) time 0 ⌝ }
@@ -866,7 +867,7 @@ fn zero() -> WriterPacerAlone
             next_sequence: 0,
             tokens: TokenBucket::new(0, 0, 0),
         },
-        words: [0; 1805],
+        words: [0; PACER_WORDS],
     }
 }
 
@@ -888,7 +889,7 @@ impl WriterPacerAlone {
                 ledger: Ledger::new(time),
                 config: PacerConfig::of(config),
                 core: PacerCore::with_rate(time, Limits::of(config), initial_rate_bps),
-                words: [0; 1805],
+                words: [0; PACER_WORDS],
             },
         }
     }
@@ -1040,8 +1041,15 @@ impl WriterPacerAlone {
         self.core
     }
 
-    // Entries and counts, for `entries::look_at`, `metrics` and `total_bytes_p2`.
-    pub fn words(self) -> [u64; 1805]
+    // The Rust's metrics.
+    pub fn metrics(self) -> WriterPacerMetrics
+        ensures { λ r. ⌜ r ≡ metricsIn (self .words) 0 ⌝ }
+    {
+        metrics(&self.words, 0)
+    }
+
+    // Entries and counts, for `entries::look_at` and `total_bytes_p2`.
+    pub fn words(self) -> [u64; PACER_WORDS]
         ensures { λ r. ⌜ r ≡ self .words ⌝ }
     {
         self.words
