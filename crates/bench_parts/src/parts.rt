@@ -1,9 +1,7 @@
 // A list of calls on the parts of four pacers: cores, words and the ledger are locals, and nothing larger than a core is moved.
 use bench::call;
 use config::config::CongestionConfig;
-use config::config::Priority;
 use config::ledger::Ledger;
-use pacing::coalescing::InstanceKey;
 use pacing::pool;
 use pacing::pool::Limits;
 use pacing::writer_pacer;
@@ -16,27 +14,25 @@ fn slots_of_four(limits: Limits) -> usize {
     limits.slots() * 4
 }
 
-// A checked hand-in to pacer i of four.
+// Call k of a list, a checked hand-in to one of four pacers.
 fn hand_in(
+    word: u64,
+    k: usize,
     ledger: Ledger,
     core: PacerCore,
     limits: Limits,
     words: &mut [u64; 7220],
     pool: &mut [u8],
+    bytes: &[u8],
     time: u64,
-    i: u8,
-    class: Priority,
-    key: InstanceKey,
-    sample: &[u8],
 ) -> Handed {
-    let answer = writer_pacer::check_hand_in(
-        ledger,
-        true,
-        slots_of_four(limits),
-        pool.len(),
-        time,
-        sample.len(),
-    );
+    let sample = pool::shown(bytes, call::start_of(k), call::length_of(word));
+    let slots = slots_of_four(limits);
+    let length = sample.len();
+    let answer = writer_pacer::check_hand_in(ledger, true, slots, pool.len(), time, length);
+    let i = call::pacer_of(word);
+    let class = call::class_of(word);
+    let key = call::key_of(word);
     writer_pacer::hand_in(
         answer,
         ledger,
@@ -83,18 +79,16 @@ pub fn run(list: &[u64], pool: &mut [u8], bytes: &[u8], rate_bps: u32) -> u64 {
         let at = (i % 4) as usize;
         let before = cores[at];
         if call::is_hand_in(word) {
-            let sample = pool::shown(bytes, call::start_of(k), call::length_of(word));
             let handed = hand_in(
+                word,
+                k,
                 ledger,
                 before,
                 limits,
                 &mut words,
                 pool,
+                bytes,
                 time,
-                i,
-                call::class_of(word),
-                call::key_of(word),
-                sample,
             );
             let moved = handed.ledger;
             let after = handed.core;
