@@ -122,7 +122,7 @@ pub record Parts : Type 0 where
 abbrev pub partsOf : PacerCore → List ℕ → List ℕ → Parts
 partsOf p words pool = record { core = p; words = words; pool = pool }
 
--- an accepted call: a record of at most 1,472 bytes, a send attempt at a time, a rate setting
+-- a call that no number but 12 meets: a record of at most 1,472 bytes, a send attempt at a time, a rate setting
 pub data Call : Type 0 where
   handIn : (c : Priority) (key : InstanceKey) (bytes : List ℕ) → length bytes < 1473 → Call
   trySend : ℕ → Call
