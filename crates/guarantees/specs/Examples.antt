@@ -7,7 +7,6 @@ use mathlib.Core.Path.{_≡_}
 use lib.Ieee.{Float, fin, binary32, ofInt}
 use lib.IntN.{pos, negsuc}
 use lib.ListN.{replicate}
-use Rattle.config.specs.Config.{classNumber}
 use Rattle.config.specs.Ledger.{opened}
 use Rattle.config.specs.declared.config.Priority.{Priority}
 use Rattle.config.specs.declared.config.Priority.the-variants.{P0, P1, P2}
@@ -25,8 +24,6 @@ use Rattle.pacing.specs.WriterPacerAlone.{pacerAloneOf, handedAlone, sentAlone}
 use Rattle.pacing.specs.declared.coalescing.InstanceKey.{InstanceKey}
 use Rattle.pacing.specs.declared.pool.Limits.{Limits}
 use Rattle.pacing.specs.declared.token_bucket.TokenBucket.{TokenBucket}
-use Rattle.pacing.specs.declared.writer_pacer.SendAction.{SendAction}
-use Rattle.pacing.specs.declared.writer_pacer.SendAction.the-variants.{Send, Empty, RateLimited}
 use Rattle.pacing.specs.declared.writer_pacer.WriterPacerAlone.{WriterPacerAlone}
 
 -- ---- what a row gives and what it gets
@@ -66,9 +63,8 @@ pub data Left : Type 0 where
 -- what a call on a pacer answers: a hand-in its number, a send attempt what it comes to
 pub data Answer : Type 0 where
   answered : ℕ → Answer
-  sent : ℕ → ℕ → ℕ → Answer
-  nothing : Answer
-  waitFor : ℕ → Answer
+  -- its number, and class, sequence and length of a sent record, the nanoseconds of a wait, or nothing
+  came : ℕ → List ℕ → Answer
 
 pub data Result : Type 0 where
   float : Float → Result
@@ -128,15 +124,9 @@ abbrev acted : WriterPacerAlone → Act → WriterPacerAlone
 acted a (hand c key n) = handedAlone a (poolBytes a) 0 c (keyNumber key) n .alone
 acted a send = sentAlone a (poolBytes a) 0 .alone
 
--- class, sequence and length of a sent record
-abbrev shownBy : SendAction → Answer
-shownBy (Send c slot sequence n forced) = sent (classNumber c) sequence n
-shownBy Empty = nothing
-shownBy (RateLimited nanos) = waitFor nanos
-
 abbrev answers : WriterPacerAlone → Act → Answer
 answers a (hand c key n) = answered (handedAlone a (poolBytes a) 0 c (keyNumber key) n .answer)
-answers a send = shownBy (sentAlone a (poolBytes a) 0 .action)
+answers a send = came (sentAlone a (poolBytes a) 0 .answer) (pacing.actionValues (sentAlone a (poolBytes a) 0 .action))
 
 abbrev performed : WriterPacerAlone → List Act → List Answer
 performed a [] = []
@@ -187,12 +177,12 @@ table =
     (steps (taken true 28 ∷ refilledTo 38 ∷ waits 143400000 38 ∷ []))
     -- P2 keys A, B, A: sends A with sequence 2, then B with 1
     ∷ row (pacer 2 4 2 10000 (hand P2 1 10 ∷ hand P2 2 20 ∷ hand P2 1 30 ∷ send ∷ send ∷ send ∷ []))
-    (acts (answered 0 ∷ answered 0 ∷ answered 0 ∷ sent 2 2 30 ∷ sent 2 1 20 ∷ nothing ∷ []))
+    (acts (answered 0 ∷ answered 0 ∷ answered 0 ∷ came 0 (2 ∷ 2 ∷ 30 ∷ []) ∷ came 0 (2 ∷ 1 ∷ 20 ∷ []) ∷ came 0 [] ∷ []))
     -- P0 limit 2: the third is 12, a P1 record after it has sequence 3
     ∷ row (pacer 2 4 2 10000 (hand P0 0 10 ∷ hand P0 0 10 ∷ hand P0 0 10 ∷ hand P1 0 10 ∷ send ∷ send ∷ send ∷ []))
-    (acts (answered 0 ∷ answered 0 ∷ answered 12 ∷ answered 0 ∷ sent 0 0 10 ∷ sent 0 1 10 ∷ sent 1 3 10 ∷ []))
+    (acts (answered 0 ∷ answered 0 ∷ answered 12 ∷ answered 0 ∷ came 0 (0 ∷ 0 ∷ 10 ∷ []) ∷ came 0 (0 ∷ 1 ∷ 10 ∷ []) ∷ came 0 (1 ∷ 3 ∷ 10 ∷ []) ∷ []))
     -- 1,472 bytes pass, 1,473 is 3
-    ∷ row (pacer 2 4 2 10000 (hand P1 0 1472 ∷ hand P1 0 1473 ∷ send ∷ [])) (acts (answered 0 ∷ answered 3 ∷ sent 1 0 1472 ∷ []))
+    ∷ row (pacer 2 4 2 10000 (hand P1 0 1472 ∷ hand P1 0 1473 ∷ send ∷ [])) (acts (answered 0 ∷ answered 3 ∷ came 0 (1 ∷ 0 ∷ 1472 ∷ []) ∷ []))
     ∷ []
 
 -- every row's result is what the definitions give for its input

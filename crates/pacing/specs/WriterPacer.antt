@@ -2,11 +2,12 @@
 -- step reads the record's class and key alone; its length goes to the entry and its bytes to the slot. Definitions only.
 use Prim.Native.Nat.{ℕ, _+_, _/_, min, max}
 use mathlib.Core.Bool.{Bool, true, false, cond}
-use mathlib.Core.List.{List}
+use mathlib.Core.List.{List, [], _∷_}
 use lib.Dec.{ltb, eqb}
 use lib.ListN.{getD}
 use Rattle.config.specs.Config.{classNumber}
 use Rattle.config.specs.Ledger.{moved}
+use Rattle.config.specs.Refusal.{accepted}
 use Rattle.config.specs.declared.config.CongestionConfig.{CongestionConfig}
 use Rattle.config.specs.declared.config.Priority.{Priority}
 use Rattle.config.specs.declared.config.Priority.the-variants.{P0, P1, P2}
@@ -68,7 +69,7 @@ withQueues p q = record { queues = q; «next_sequence» = p .«next_sequence»; 
 abbrev pub withTokens : PacerCore → TokenBucket → PacerCore
 withTokens p b = record { queues = p .queues; «next_sequence» = p .«next_sequence»; tokens = b }
 
--- "capacity a tenth of the rate, at least 1,500": 100 ms of the rate
+-- a bucket's capacity, as the Rust's `with_rate` and `set_rate` have it: 100 ms of the rate, at least 1,500
 abbrev pub burstOf : ℕ → ℕ
 burstOf rate = max 1500 (rate / 10)
 
@@ -122,6 +123,18 @@ enqueue p l i P1 key = enqueueP1 (numbered p) (p .«next_sequence»)
 enqueue p l i P2 key = enqueueP2 (numbered p) l i key
 
 -- ---- send attempt
+
+-- what a send attempt comes to is an accepted call's: number 0
+abbrev pub actionNumber : SendAction → ℕ
+actionNumber (Send c slot sequence n forced) = accepted
+actionNumber Empty = accepted
+actionNumber (RateLimited wait) = accepted
+
+-- its values: "`sent` class sequence length, `empty`, or `wait` nanoseconds"
+abbrev pub actionValues : SendAction → List ℕ
+actionValues (Send c slot sequence n forced) = classNumber c ∷ sequence ∷ n ∷ []
+actionValues Empty = []
+actionValues (RateLimited wait) = wait ∷ []
 
 -- the entry of the first waiting record of a class
 unfoldable pub frontOf : Queues → List ℕ → ℕ → Priority → Entry
@@ -289,7 +302,7 @@ unfoldable pub attemptBy : Bool → PacerCore → List ℕ → ℕ → ℕ → A
 attemptBy enabled p words i time = cond enabled (attempt p words i time) (record { core = p; action = Empty })
 
 abbrev pub sendLeaves : Ledger → ℕ → Attempt → SendTried
-sendLeaves l time x = record { answer = 0; ledger = moved l time; core = x .core; action = x .action }
+sendLeaves l time x = record { answer = actionNumber (x .action); ledger = moved l time; core = x .core; action = x .action }
 
 unfoldable pub sentBy : ℕ → Bool → Ledger → PacerCore → List ℕ → ℕ → ℕ → SendTried
 sentBy answer enabled l p words time i =

@@ -4,7 +4,7 @@ ghost use mathlib.Core.Path.{_≡_};
 ghost use lib.ListN.{length};
 ghost use Rattle.config.specs.Refusal.{answerOf};
 ghost use Rattle.config.specs.declared.config.Priority.the-variants.{P2};
-ghost use Rattle.pacing.specs.WriterPacer.{pacerConfigOf, ringOf, withRing, burstOf, made, numbered, placedIn, enqueueP0, enqueueP1, enqueueP2, enqueue, frontOf, gone, attemptP0, paid, waited, limited, attempt, clampedRate, rateSet, countAt, dropNoted, handInNoted, sentNoted, sendNoted, metricsIn, totalBytesIn, handInWritten, handInStored, handedBy, wordsHandedBy, poolHandedBy, sentBy, wordsSentBy, sentBytes};
+ghost use Rattle.pacing.specs.WriterPacer.{pacerConfigOf, ringOf, withRing, burstOf, made, numbered, placedIn, enqueueP0, enqueueP1, enqueueP2, enqueue, actionNumber, frontOf, gone, attemptP0, paid, waited, limited, attempt, clampedRate, rateSet, countAt, dropNoted, handInNoted, sentNoted, sendNoted, metricsIn, totalBytesIn, handInWritten, handInStored, handedBy, wordsHandedBy, poolHandedBy, sentBy, wordsSentBy, sentBytes};
 ghost use Rattle.pacing.specs.WriterPacerAlone.{defaultKey, makingChecks, handInChecks, sendChecks, rateChecks, zeroPacer, madeAlone, resumedAlone, handedAlone, poolHanded, sentAlone, ratedAlone};
 use crate::coalescing;
 use crate::coalescing::CoalescingQueue;
@@ -76,6 +76,25 @@ pub enum SendAction {
     },
     Empty,
     RateLimited(u64),
+}
+
+impl SendAction {
+    // Document 01's answer number: a send attempt that is not turned down is accepted, whatever it comes to.
+    pub fn number(self) -> u8
+        ensures { λ r. ⌜ r ≡ actionNumber self ⌝ }
+    {
+        match self {
+            SendAction::Send {
+                class: _,
+                slot: _,
+                sequence: _,
+                length: _,
+                forced: _,
+            } => refusal::ACCEPTED,
+            SendAction::Empty => refusal::ACCEPTED,
+            SendAction::RateLimited(_) => refusal::ACCEPTED,
+        }
+    }
 }
 
 pub struct Attempt {
@@ -678,7 +697,7 @@ pub fn send(
         let after = attempt.core;
         note_send(words, i, action);
         return SendTried {
-            answer: 0,
+            answer: action.number(),
             ledger: ledger.moved(time),
             core: after,
             action,

@@ -15,6 +15,9 @@ try-send-requires c κs = search needs
 note-send-requires : tie.Need-note-send-requires
 note-send-requires c κs = search needs
 
+number-requires : tie.Need-number-requires
+number-requires c κs = search needs
+
 moved-requires : tie.Need-moved-requires
 moved-requires c κs = search needs
 
@@ -23,7 +26,7 @@ same-length c = search needs
 
 returns-2 : tie.Need-returns-2
 unfolding sentBy wordsSentBy attemptBy
-returns-2 c = rw (c .before .before .before .before .before .before .before .before .before .if1 .left, c .before .before .before .before .before .before .before .before .if2 .taken, ← c .before .before .before .before .before .before .try-send .ensures, ← c .moved .ensures) (refl, c .before .before .before .note-send .ensures)
+returns-2 c = rw (c .before .before .before .before .before .before .before .before .before .before .if1 .left, c .before .before .before .before .before .before .before .before .before .if2 .taken, ← c .before .before .before .before .before .before .before .try-send .ensures, ← c .before .number .ensures, ← c .moved .ensures) (refl, c .before .before .before .before .note-send .ensures)
 
 moved-requires-2 : tie.Need-moved-requires-2
 moved-requires-2 c κs = search needs
@@ -39,6 +42,7 @@ send-spec =
     returns
     try-send-requires
     note-send-requires
+    number-requires
     moved-requires
     same-length
     returns-2
