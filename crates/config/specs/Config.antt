@@ -5,6 +5,7 @@ use mathlib.Core.List.{List, [], _∷_}
 use lib.Dec.{ltb, leb, eqb}
 use lib.Ieee.{Float, binary32, lt, le, ofBits}
 use Rattle.numeric.specs.Float.{finite}
+use Rattle.config.specs.Ledger.{timeCheck}
 use Rattle.config.specs.Refusal.{Check, when, answerOf, settingsInvalid, settingsBeyond}
 use Rattle.config.specs.declared.config.ConfigAnswer.{ConfigAnswer}
 use Rattle.config.specs.declared.config.CongestionConfig.{CongestionConfig}
@@ -139,3 +140,7 @@ settingsChecks c =
 
 unfoldable pub checkedBy : CongestionConfig → ConfigAnswer
 checkedBy c = record { answer = answerOf (settingsChecks c); failed = failedCheck c }
+
+-- 1, 2 and 7
+abbrev pub makingChecks : CongestionConfig → ℕ → List Check
+makingChecks c time = timeCheck time ∷ settingsChecks c

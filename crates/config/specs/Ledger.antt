@@ -2,7 +2,7 @@
 use Prim.Native.Nat.{ℕ, _+_, _^_, min}
 use mathlib.Core.List.{List, [], _∷_}
 use lib.Dec.{ltb, leb}
-use Rattle.config.specs.Refusal.{Check, when, timeBeyond, callsUsedUp, timeBack}
+use Rattle.config.specs.Refusal.{Check, when, rateBeyond, timeBeyond, callsUsedUp, timeBack}
 use Rattle.config.specs.declared.ledger.Ledger.{Ledger}
 
 abbrev pub opened : ℕ → Ledger
@@ -28,3 +28,10 @@ countedChecks l = when callsUsedUp (leb (2 ^ 40) (l .calls)) ∷ []
 -- 7, 17, and 11: a time before the last accepted one
 abbrev pub timedChecks : Ledger → ℕ → List Check
 timedChecks l time = timeCheck time ∷ when timeBack (ltb time (l .last)) ∷ countedChecks l
+
+-- 6, 7, 17 and 11: "any rate given: at most 1,000,000,000 bytes per second"
+abbrev pub rateCheck : ℕ → Check
+rateCheck rate = when rateBeyond (ltb 1000000000 rate)
+
+abbrev pub rateChecks : Ledger → ℕ → ℕ → List Check
+rateChecks l time rate = rateCheck rate ∷ timedChecks l time

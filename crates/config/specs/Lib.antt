@@ -1,3 +1,4 @@
 pub mod Refusal
 pub mod Ledger
 pub mod Config
+pub mod Moment

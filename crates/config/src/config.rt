@@ -1,7 +1,8 @@
 // The settings of congestion control and their checks.
 ghost use mathlib.Core.Path.{_≡_};
 ghost use Prim.Native.Nat.{_<_};
-ghost use Rattle.config.specs.Config.{classNumber, defaults, withoutControl, failedCheck, notInOpenClosed, notInOpen, notInClosed, ratesBeyond, floatsBeyond, queuesBeyond, limitBeyond, checkedBy};
+ghost use Rattle.config.specs.Refusal.{answerOf};
+ghost use Rattle.config.specs.Config.{classNumber, defaults, withoutControl, failedCheck, notInOpenClosed, notInOpen, notInClosed, ratesBeyond, floatsBeyond, queuesBeyond, limitBeyond, checkedBy, makingChecks};
 use crate::refusal;
 use numeric::float::is_finite_f32;
 
@@ -179,6 +180,17 @@ impl CongestionConfig {
             answer: refusal::ACCEPTED,
             failed: 0,
         }
+    }
+
+    // 1, 2, 7 or 0: the checks of making something with the settings at a time.
+    pub fn check_making(self, time: u64) -> u8
+        ensures { λ r. ⌜ r ≡ answerOf (makingChecks self time) ⌝ }
+    {
+        let checked = self.check();
+        if checked.answer != 0 {
+            return checked.answer;
+        }
+        crate::ledger::check_time(time)
     }
 
     fn rates_beyond(self) -> bool

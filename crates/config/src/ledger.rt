@@ -2,7 +2,7 @@
 ghost use mathlib.Core.Path.{_≡_};
 ghost use mathlib.Core.List.{_∷_, []};
 ghost use Rattle.config.specs.Refusal.{answerOf};
-ghost use Rattle.config.specs.Ledger.{opened, resumed, counted, moved, timeCheck, countedChecks, timedChecks};
+ghost use Rattle.config.specs.Ledger.{opened, resumed, counted, moved, timeCheck, countedChecks, timedChecks, rateChecks};
 use crate::refusal;
 
 // The latest time of the domain, 2^62, and the most accepted calls, 2^40.
@@ -72,6 +72,16 @@ impl Ledger {
             return refusal::TIME_BACK;
         }
         refusal::ACCEPTED
+    }
+
+    // 6, 7, 17, 11 or 0: the checks of a call that gives a rate at a time.
+    pub fn check_rate(self, time: u64, rate_bps: u32) -> u8
+        ensures { λ r. ⌜ r ≡ answerOf (rateChecks self time «rate_bps») ⌝ }
+    {
+        if refusal::LARGEST_RATE < rate_bps {
+            return refusal::RATE_BEYOND;
+        }
+        self.check_timed(time)
     }
 
     // One accepted call more.

@@ -1,4 +1,10 @@
-pub mod Ecn
-pub mod EcnAlone
-pub mod RttEstimator
-pub mod RttEstimatorAlone
+pub mod BudgetAllocator
+pub mod BudgetAllocatorAlone
+pub mod Controller
+pub mod ControllerAlone
+pub mod Metrics
+pub mod RateController
+pub mod RateControllerAlone
+pub mod Scorer
+pub mod ScorerAlone
+pub mod Writers

@@ -1,3 +1,6 @@
-// Congestion control: the signals that are counted and averaged.
-pub mod ecn;
-pub mod rtt_estimator;
+// Congestion control: the score of the signals, the rate that it steers, the writers' shares of that rate, and the controller over them.
+pub mod budget_allocator;
+pub mod controller;
+pub mod metrics;
+pub mod rate_controller;
+pub mod scorer;

@@ -4,18 +4,28 @@ use Prim.Native.Nat.{ℕ}
 use mathlib.Core.Bool.{Bool, true, false}
 use mathlib.Core.List.{List, [], _∷_, _++_}
 use mathlib.Core.Path.{_≡_}
-use lib.Ieee.{Float, fin, binary32, ofInt}
+use lib.Ieee.{Float, fin, binary32, ofInt, ofBits, toBits}
 use lib.IntN.{pos, negsuc}
 use lib.ListN.{replicate}
+use Rattle.config.specs.Config.{defaults}
 use Rattle.config.specs.Ledger.{opened}
 use Rattle.config.specs.declared.config.Priority.{Priority}
 use Rattle.config.specs.declared.config.Priority.the-variants.{P0, P1, P2}
-use Rattle.control.specs.Ecn.{codepointOf, newProcessor, processedTos}
-use Rattle.control.specs.RttEstimator.{newEstimator, updated, rtoOf}
-use Rattle.control.specs.declared.ecn.EcnCodepoint.{EcnCodepoint}
-use Rattle.control.specs.declared.ecn.EcnCodepoint.the-variants.{NotEct, Ect0}
-use Rattle.control.specs.declared.ecn.Processed.{Processed}
-use Rattle.control.specs.declared.rtt_estimator.RttEstimator.{RttEstimator}
+use Rattle.signals.specs.Ecn.{codepointOf, newProcessor, processedTos}
+use Rattle.signals.specs.RttEstimator.{newEstimator, updated, rtoOf}
+use Rattle.signals.specs.declared.ecn.EcnCodepoint.{EcnCodepoint}
+use Rattle.signals.specs.declared.ecn.EcnCodepoint.the-variants.{NotEct, Ect0}
+use Rattle.signals.specs.declared.ecn.Processed.{Processed}
+use Rattle.signals.specs.declared.rtt_estimator.RttEstimator.{RttEstimator}
+use Rattle.control.specs.BudgetAllocator.{allocationConfigOf}
+use Rattle.control.specs.ControllerAlone.{madeOf, eagainAlone, sampledAlone, tickedAlone}
+use Rattle.control.specs.RateController.{paramsOf}
+use Rattle.control.specs.Scorer.{scorerConfigOf}
+use Rattle.control.specs.declared.controller.CongestionControllerAlone.{CongestionControllerAlone}
+use Rattle.control.specs.declared.controller.ControllerAnswer.{ControllerAnswer}
+use Rattle.control.specs.declared.controller.ControllerConfig.{ControllerConfig}
+use Rattle.control.specs.declared.controller.ControllerCore.{ControllerCore}
+use Rattle.control.specs.declared.rate_controller.RateParams.{RateParams}
 use Rattle.pacing.specs.Coalescing.{fnv1a}
 use Rattle.pacing.specs.TokenBucket.{made, refilled, tried, told}
 use Rattle.pacing.specs.Pool.{bytesOf, slotsOf}
@@ -38,6 +48,12 @@ pub data Act : Type 0 where
   hand : Priority → ℕ → ℕ → Act
   send : Act
 
+-- a call on a controller: an EAGAIN, a sample of peer 1 in milliseconds at a time, or a tick at a time
+pub data Turn : Type 0 where
+  eagain : Turn
+  sample : ℕ → Float → Turn
+  tick : ℕ → Turn
+
 pub data Input : Type 0 where
   -- a rate, as the nearest f32
   rate : ℕ → Input
@@ -53,6 +69,8 @@ pub data Input : Type 0 where
   bucket : ℕ → ℕ → List Step → Input
   -- a pacer's queue limits and rate, made at time 0, and calls on it
   pacer : ℕ → ℕ → ℕ → ℕ → List Act → Input
+  -- a controller with the default settings but for those of the rate, made at time 0, and calls on it
+  controller : RateParams → List Turn → Input
 
 -- what a step on a bucket answers, and the tokens that it leaves
 pub data Left : Type 0 where
@@ -66,6 +84,11 @@ pub data Answer : Type 0 where
   -- its number, and class, sequence and length of a sent record, the nanoseconds of a wait, or nothing
   came : ℕ → List ℕ → Answer
 
+-- what a call on a controller answers: its number; of a tick also whether the rate changed, the score's bits, how many soft and hard decreases there were, and the rate
+pub data Turned : Type 0 where
+  noted : ℕ → Turned
+  ticked : ℕ → Bool → ℕ → ℕ → ℕ → ℕ → Turned
+
 pub data Result : Type 0 where
   float : Float → Result
   -- average, variance and retransmission timeout
@@ -76,6 +99,7 @@ pub data Result : Type 0 where
   hash : ℕ → Result
   steps : List Left → Result
   acts : List Answer → Result
+  turns : List Turned → Result
 
 -- ---- what the definitions give
 
@@ -132,6 +156,37 @@ abbrev performed : WriterPacerAlone → List Act → List Answer
 performed a [] = []
 performed a (x ∷ rest) = answers a x ∷ performed (acted a x) rest
 
+abbrev configWith : RateParams → ControllerConfig
+configWith p =
+    record {
+      enabled = true;
+      ecn = false;
+      scorer = scorerConfigOf defaults;
+      rate = p;
+      allocation = allocationConfigOf defaults;
+    }
+
+-- the answer to a call, and with it what the call leaves
+abbrev turned : CongestionControllerAlone → Turn → ControllerAnswer
+turned a eagain = eagainAlone a
+turned a (sample time x) = sampledAlone a time 1 x
+turned a (tick time) = tickedAlone a time
+
+abbrev tickSeen : ControllerAnswer → ControllerCore → Turned
+tickSeen x k =
+    ticked (x .answer) (x .told) (toBits binary32 (k .scorer .score)) (k .«rate_controller» .metrics .«decreases_soft»)
+    (k .«rate_controller» .metrics .«decreases_hard»)
+    (k .«rate_controller» .«current_rate»)
+
+abbrev turnSeen : Turn → ControllerAnswer → Turned
+turnSeen eagain x = noted (x .answer)
+turnSeen (sample time y) x = noted (x .answer)
+turnSeen (tick time) x = tickSeen x (x .alone .controller .core)
+
+abbrev steered : CongestionControllerAlone → List Turn → List Turned
+steered a [] = []
+steered a (t ∷ rest) = turnSeen t (turned a t) ∷ steered (turned a t .alone) rest
+
 abbrev pub outcome : Input → Result
 outcome (rate n) = float (ofInt binary32 (pos n))
 outcome (samples xs) = shown (sampled (newEstimator (fin false 25 (pos 2))) xs)
@@ -140,6 +195,7 @@ outcome (tos x) = codepoint (codepointOf x)
 outcome (bytes xs) = hash (fnv1a xs)
 outcome (bucket r n xs) = steps (walked (made 0 r n) xs)
 outcome (pacer p0 p1 p2 r xs) = acts (performed (newPacer (limitsOf p0 p1 p2) r) xs)
+outcome (controller p xs) = turns (steered (madeOf (configWith p) 0) xs)
 
 -- ---- the table
 
@@ -157,11 +213,41 @@ scaled m k = fin false m (pos k)
 abbrev halves : ℕ → Float
 halves m = fin false m (negsuc 0)
 
+-- the default rates, and a range up to n with the factor 1.0 of a hard decrease
+abbrev byDefault : RateParams
+byDefault = paramsOf defaults
+
+abbrev factorOne : ℕ → RateParams
+factorOne n =
+    record {
+      «min_rate» = 1;
+      «max_rate» = n;
+      «ai_step» = 0;
+      «md_hard» = ofBits binary32 0x3f80_0000;
+      «md_soft» = ofBits binary32 0x3f80_0000;
+    }
+
 abbrev pub table : List Example
 table =
     -- 16,777,217 rounds to 16,777,216 = 2 ^ 24, and 16,777,219 to 16,777,220 = 4,194,305 * 4
     row (rate 16777217) (float (scaled 1 24))
     ∷ row (rate 16777219) (float (scaled 4194305 2))
+    -- at factor 1.0 the latter rate stays: a tick after an EAGAIN reports no change
+    ∷ row (controller (factorOne 16777219) (eagain ∷ tick 100000000 ∷ []))
+    (turns (noted 0 ∷ ticked 0 false 0x4270_0000 0 0 16777219 ∷ []))
+    -- EAGAIN, tick: score 60 (0x42700000), hard, 100,000,000 to 50,000,000
+    ∷ row (controller byDefault (eagain ∷ tick 100000000 ∷ []))
+    (turns (noted 0 ∷ ticked 0 true 0x4270_0000 0 1 50000000 ∷ []))
+    -- RTT inflated (100 ms over a least of 10) at four ticks 100 ms apart: soft at the fourth only, 80,000,000
+    ∷ row (controller byDefault
+    (sample 0 (scaled 5 1) ∷ sample 0 (scaled 25 2) ∷ tick 100000000 ∷ tick 200000000 ∷ tick 300000000 ∷ tick 400000000 ∷ []))
+    (turns (noted 0
+    ∷ noted 0
+    ∷ ticked 0 false 0x41a0_0000 0 0 100000000
+    ∷ ticked 0 false 0x4218_0000 0 0 100000000
+    ∷ ticked 0 false 0x4258_cccd 0 0 100000000
+    ∷ ticked 0 true 0x4289_8f5c 1 0 80000000
+    ∷ []))
     -- RTT 100, 200: average 112.5, variance 62.5, `rto` 362.5
     ∷ row (samples (scaled 25 2 ∷ scaled 25 3 ∷ [])) (roundTrip (halves 225) (halves 125) (halves 725))
     -- 99 ECT(0) and one CE signal; 100 ECT(0) do not

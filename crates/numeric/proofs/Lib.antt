@@ -7,3 +7,4 @@ pub mod Truncation
 pub mod Closest
 pub mod Nanoseconds
 pub mod Search
+pub mod Choice

@@ -1,6 +1,12 @@
--- Rust's `max`, `clamp` and `abs` of floats, over the comparisons of IEEE 754 (`lib.Ieee`). Definitions only.
+-- A factor of a rate, and Rust's `max`, `clamp` and `abs` of floats, over the operations of IEEE 754 (`lib.Ieee`). Definitions only.
+use Prim.Native.Nat.{ℕ}
 use mathlib.Core.Bool.{Bool, true, false, cond}
-use lib.Ieee.{Float, nan, inf, fin, lt, isNan}
+use lib.Ieee.{Float, nan, inf, fin, binary32, ofInt, mul, toUnsigned, lt, isNan}
+use lib.IntN.{pos}
+
+-- "A decrease multiplies the rounded f32 rate by the factor": rounded to nearest, ties to even, multiplied in f32, cut to a whole number
+unfoldable pub scaled : ℕ → Float → ℕ
+scaled n x = toUnsigned 32 (mul binary32 (ofInt binary32 (pos n)) x)
 
 -- `f32::max`: the larger; a NaN gives way to the other (IEEE 754-2019, 9.6, maximumNumber), and of two that compare equal it is the first
 abbrev pub maxOf : Float → Float → Float

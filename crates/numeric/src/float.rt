@@ -3,7 +3,7 @@ ghost use mathlib.Core.Path.{_≡_};
 ghost use lib.IntN.{pos};
 ghost use lib.Ieee as Ieee;
 ghost use lib.Ieee.{binary32, binary64};
-ghost use Rattle.numeric.specs.Float.{maxOf, clampOf, absOf, finite};
+ghost use Rattle.numeric.specs.Float.{scaled, maxOf, clampOf, absOf, finite};
 
 // The nearest f32 of a rate, ties to even: Rust's `n as f32`.
 // Each half of n is a float exactly, and so is the upper half times 2^16; only the sum rounds.
@@ -11,6 +11,13 @@ pub fn f32_of_u32(n: u32) -> f32
     ensures { λ r. ⌜ r ≡ Ieee.ofInt binary32 (pos n) ⌝ }
 {
     ((n / 65536) as f32) * 65536.0 + ((n % 65536) as f32)
+}
+
+// The f32 of a small number of the settings, which is exact.
+pub fn f32_of_u8(n: u8) -> f32
+    ensures { λ r. ⌜ r ≡ Ieee.ofInt binary32 (pos n) ⌝ }
+{
+    n as f32
 }
 
 // The nearest f64 of a count of bytes or nanoseconds, ties to even: Rust's `n as f64`.
@@ -63,6 +70,13 @@ pub fn u64_of_f64(x: f64) -> u64
     } else {
         0
     }
+}
+
+// A factor of a rate: the nearest f32 of the rate times the factor in f32, cut to a whole number. Rust's `(n as f32 * factor) as u32`.
+pub fn scaled_u32(n: u32, factor: f32) -> u32
+    ensures { λ r. ⌜ r ≡ scaled n factor ⌝ }
+{
+    u32_of_f32(f32_of_u32(n) * factor)
 }
 
 // The f32 of a bit pattern, such as a sample on a tape: Rust's `f32::from_bits`. Every NaN pattern gives a NaN.

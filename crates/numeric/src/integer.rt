@@ -1,4 +1,4 @@
-// Sums and products of u64 that wrap or stop where the language's own would overflow.
+// Sums and products that wrap or stop where the language's own would overflow, and the smaller, the larger and the range of rates.
 ghost use mathlib.Core.Path.{_≡_};
 ghost use Prim.Native.Nat.{_+_, _-_, _*_, _%_, _^_, max, min};
 
@@ -54,4 +54,45 @@ pub fn min_u64(x: u64, y: u64) -> u64
     ensures { λ r. ⌜ r ≡ min x y ⌝ }
 {
     if x < y { x } else { y }
+}
+
+// The sum, at most `most`: an increase up to the largest rate.
+pub fn bounded_add_u32(x: u32, y: u32, most: u32) -> u32
+    ensures { λ r. ⌜ r ≡ min (x + y) most ⌝ }
+{
+    if most <= x {
+        most
+    } else if y <= most - x {
+        x + y
+    } else {
+        most
+    }
+}
+
+// The difference, or 0, of two rates.
+pub fn saturating_sub_u32(x: u32, y: u32) -> u32
+    ensures { λ r. ⌜ r ≡ x - y ⌝ }
+{
+    if y <= x { x - y } else { 0 }
+}
+
+// The smaller of two rates.
+pub fn min_u32(x: u32, y: u32) -> u32
+    ensures { λ r. ⌜ r ≡ min x y ⌝ }
+{
+    if x < y { x } else { y }
+}
+
+// The larger of two rates.
+pub fn max_u32(x: u32, y: u32) -> u32
+    ensures { λ r. ⌜ r ≡ max x y ⌝ }
+{
+    if x < y { y } else { x }
+}
+
+// A rate held to a range, as `x.max(low).min(high)`.
+pub fn clamp_u32(x: u32, low: u32, high: u32) -> u32
+    ensures { λ r. ⌜ r ≡ min (max x low) high ⌝ }
+{
+    min_u32(max_u32(x, low), high)
 }

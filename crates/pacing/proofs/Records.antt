@@ -12,6 +12,7 @@ use lib.ListN.{length, getD, set, drop, replicate}
 use Rattle.config.specs.Config.{classNumber}
 use Rattle.config.specs.declared.config.Priority.{Priority}
 use Rattle.config.specs.declared.config.Priority.the-variants.{P0, P1, P2}
+use Rattle.numeric.proofs.Choice.{by-test}
 use Rattle.pacing.specs.Coalescing.{afterNext, found, inserted, queueOf, replacedAt, joinedBy}
 use Rattle.pacing.specs.Entries.{pacerAt, queueAt, entryAt, entryOf, noKey, look, entered, shaped, mostOf}
 use Rattle.pacing.specs.Pool.{piece, stored, bytesOf, slotsOf, slotStart}
@@ -37,7 +38,7 @@ use Rattle.pacing.specs.declared.writer_pacer.Queues.{Queues}
 use Rattle.pacing.specs.declared.writer_pacer.SendAction.{SendAction}
 use Rattle.pacing.specs.declared.writer_pacer.SendAction.the-variants.{Send, Empty, RateLimited}
 use Rattle.pacing.proofs.Pools.{slotIndex, slot-inside, length-stored, piece-stored, piece-stored-other, index-apart, index-same}
-use Rattle.pacing.proofs.Rings.{Sound, by-test, contents-same, contents-pushed, contents-popped, contents-first, contents-replaced, length-contents, sound-pushed, sound-popped, next-slot-below, slot-below, limit-roomy, first-placeIn}
+use Rattle.pacing.proofs.Rings.{Sound, contents-same, contents-pushed, contents-popped, contents-first, contents-replaced, length-contents, sound-pushed, sound-popped, next-slot-below, slot-below, limit-roomy, first-placeIn}
 use Rattle.pacing.proofs.Slots.{Noted, noted-hand-in, noted-send, look-noted, look-entered, look-other, fits-words, queueNumber, length-entered}
 use Rattle.pacing.proofs.Windows.{upd-same, upd-other}
 

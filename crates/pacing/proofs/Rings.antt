@@ -10,6 +10,7 @@ use native.Mathlib.Omega.{arith}
 use borrow.Author.Tests.{ltb-true, ltb-false}
 use lib.Dec.{ltb}
 use lib.ListN.{length, set, drop}
+use Rattle.numeric.proofs.Choice.{by-test}
 use Rattle.numeric.specs.Search.{first}
 use Rattle.pacing.specs.Ring.{newRing, slotAt, popped, roomy, added, pushed, nextSlot}
 use Rattle.pacing.specs.Window.{window, upd, contents, joinList, placeIn}
@@ -20,11 +21,6 @@ use Rattle.pacing.proofs.Windows.{window-ext, window-mod, window-push, 
 pub record Sound (r : Ring) : Type 0 where
   pub some : 1 ≤ r .limit
   pub fits : r .count ≤ r .limit
-
--- a choice by a computed test, with the equation kept
-pub by-test : {A : Type 0} (P : A → Type 0) (t : Bool) {x y : A} → (t ≡ true → P x) → (t ≡ false → P y) → P (cond t x y)
-by-test P true f g = f refl
-by-test P false f g = g refl
 
 pub slot-below : (r : Ring) (place : ℕ) → Sound r → slotAt r place < r .limit
 slot-below r place ok =

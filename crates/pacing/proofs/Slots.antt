@@ -11,6 +11,7 @@ use lib.Seq.{getD-set-same, getD-set-other}
 use Rattle.config.specs.Config.{classNumber}
 use Rattle.config.specs.declared.config.Priority.{Priority}
 use Rattle.config.specs.declared.config.Priority.the-variants.{P0, P1, P2}
+use Rattle.numeric.proofs.Choice.{by-test}
 use Rattle.pacing.specs.Coalescing.{exchanged, coalescedAt, droppedAt, totalBytesAt, insertNoted, notedBy}
 use Rattle.pacing.specs.Entries.{counted, pacerAt, queueAt, entryAt, look, entered, put2, put4, shaped, mostOf}
 use Rattle.pacing.specs.Ring.{isFull}
@@ -23,7 +24,6 @@ use Rattle.pacing.specs.declared.ring.Fate.the-variants.{Full, Joined, P
 use Rattle.pacing.specs.declared.ring.Kept.{Kept}
 use Rattle.pacing.specs.declared.writer_pacer.SendAction.{SendAction}
 use Rattle.pacing.specs.declared.writer_pacer.SendAction.the-variants.{Send, Empty, RateLimited}
-use Rattle.pacing.proofs.Rings.{by-test}
 use Rattle.pacing.proofs.Windows.{upd-same, upd-other}
 
 entry≡ : {x y : Entry} → x .sequence ≡ y .sequence → x .length ≡ y .length → x .key ≡ y .key → x ≡ y

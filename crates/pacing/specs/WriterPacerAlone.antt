@@ -6,7 +6,7 @@ use mathlib.Core.List.{List, [], _∷_}
 use lib.Dec.{ltb, eqb}
 use lib.ListN.{length, replicate}
 use Rattle.config.specs.Config.{settingsChecks}
-use Rattle.config.specs.Ledger.{opened, resumed, moved, timeCheck, timedChecks}
+use Rattle.config.specs.Ledger.{opened, resumed, moved, timeCheck, timedChecks, rateChecks}
 use Rattle.config.specs.Refusal.{Check, when, answerOf, recordTooLong, rateBeyond, bufferTooShort, disabled}
 use Rattle.config.specs.declared.config.CongestionConfig.{CongestionConfig}
 use Rattle.config.specs.declared.config.Priority.{Priority}
@@ -44,10 +44,6 @@ sendChecks l slots bytes time = when bufferTooShort (isShort bytes slots) ∷ ti
 abbrev pub handInChecks : Ledger → Bool → ℕ → ℕ → ℕ → ℕ → List Check
 handInChecks l enabled slots bytes time n =
     when recordTooLong (ltb 1472 n) ∷ when disabled (not enabled) ∷ sendChecks l slots bytes time
-
--- 6, 7, 17 and 11
-abbrev pub rateChecks : Ledger → ℕ → ℕ → List Check
-rateChecks l time rate = when rateBeyond (ltb 1000000000 rate) ∷ timedChecks l time
 
 -- ---- the public calls
 

@@ -4,8 +4,8 @@ ghost use mathlib.Core.Path.{_≡_};
 ghost use lib.ListN.{length};
 ghost use Rattle.config.specs.Refusal.{answerOf};
 ghost use Rattle.config.specs.declared.config.Priority.the-variants.{P2};
-ghost use Rattle.pacing.specs.WriterPacer.{pacerConfigOf, ringOf, withRing, burstOf, made, numbered, placedIn, enqueueP0, enqueueP1, enqueueP2, enqueue, actionNumber, frontOf, gone, attemptP0, paid, waited, limited, attempt, clampedRate, rateSet, countAt, dropNoted, handInNoted, sentNoted, sendNoted, metricsIn, totalBytesIn, handInWritten, handInStored, handedBy, wordsHandedBy, poolHandedBy, sentBy, wordsSentBy, sentBytes};
-ghost use Rattle.pacing.specs.WriterPacerAlone.{defaultKey, makingChecks, handInChecks, sendChecks, rateChecks, zeroPacer, madeAlone, resumedAlone, handedAlone, poolHanded, sentAlone, ratedAlone};
+ghost use Rattle.pacing.specs.WriterPacer.{pacerConfigOf, ringOf, withRing, burstOf, made, numbered, placedIn, enqueueP0, enqueueP1, enqueueP2, enqueue, actionNumber, frontOf, gone, attemptP0, paid, waited, limited, attempt, rateSet, countAt, dropNoted, handInNoted, sentNoted, sendNoted, metricsIn, totalBytesIn, handInWritten, handInStored, handedBy, wordsHandedBy, poolHandedBy, sentBy, wordsSentBy, sentBytes};
+ghost use Rattle.pacing.specs.WriterPacerAlone.{defaultKey, makingChecks, handInChecks, sendChecks, zeroPacer, madeAlone, resumedAlone, handedAlone, poolHanded, sentAlone, ratedAlone};
 use crate::coalescing;
 use crate::coalescing::CoalescingQueue;
 use crate::coalescing::InstanceKey;
@@ -200,25 +200,6 @@ fn try_paid(
     }
     let first = front(queues, words, i, class);
     tokens.try_consume(time, first.length)
-}
-
-// A rate held to the settings' range, as `rate.max(min).min(max)`.
-fn clamped(rate_bps: u32, min_rate_bps: u32, max_rate_bps: u32) -> u32
-    ensures { λ r. ⌜ r ≡ clampedRate «rate_bps» «min_rate_bps» «max_rate_bps» ⌝ }
-{
-    if rate_bps < min_rate_bps {
-        if min_rate_bps < max_rate_bps {
-            min_rate_bps
-        } else {
-            max_rate_bps
-        }
-    } else {
-        if rate_bps < max_rate_bps {
-            rate_bps
-        } else {
-            max_rate_bps
-        }
-    }
 }
 
 // A bucket's capacity: 100 ms of the rate, at least 1,500.
@@ -430,7 +411,7 @@ impl PacerCore {
     pub fn set_rate(mut self, config: PacerConfig, time: u64, rate_bps: u32) -> PacerCore
         ensures { λ r. ⌜ r ≡ rateSet self config time «rate_bps» ⌝ }
     {
-        let rate = clamped(rate_bps, config.min_rate_bps, config.max_rate_bps);
+        let rate = numeric::integer::clamp_u32(rate_bps, config.min_rate_bps, config.max_rate_bps);
         let bucket = self.tokens.set_rate(time, rate);
         self.tokens = bucket.set_capacity(burst(rate));
         self
@@ -783,16 +764,6 @@ fn check_making(config: CongestionConfig, time: u64, rate_bps: u32) -> u8
     config::ledger::check_time(time)
 }
 
-// 6, 7, 17, 11 or 0, for a rate at a time; 0 is raised to the least rate.
-fn check_rate(ledger: Ledger, time: u64, rate_bps: u32) -> u8
-    ensures { λ r. ⌜ r ≡ answerOf (rateChecks ledger time «rate_bps») ⌝ }
-{
-    if refusal::LARGEST_RATE < rate_bps {
-        return refusal::RATE_BEYOND;
-    }
-    ledger.check_timed(time)
-}
-
 // A pacer used alone, with its own call count and last time: the public calls, which turn down by number.
 pub struct WriterPacerAlone {
     ledger: Ledger,
@@ -1025,7 +996,7 @@ impl WriterPacerAlone {
     pub fn set_rate(mut self, time: u64, rate_bps: u32) -> WriterPacerLeft
         ensures { λ r. ⌜ r ≡ ratedAlone self time «rate_bps» ⌝ }
     {
-        let answer = check_rate(self.ledger, time, rate_bps);
+        let answer = self.ledger.check_rate(time, rate_bps);
         if answer != 0 {
             return WriterPacerLeft {
                 answer,

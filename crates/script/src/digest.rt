@@ -13,6 +13,15 @@ pub(crate) fn joined(digest: u64, field: u64) -> u64 {
     numeric::integer::wrapping_mul(digest ^ field, DIGEST_PRIME)
 }
 
+// A flag as 0 or 1.
+pub(crate) fn joined_flag(digest: u64, flag: bool) -> u64 {
+    if flag {
+        joined(digest, 1)
+    } else {
+        joined(digest, 0)
+    }
+}
+
 // The records that wait in a ring, from its head; `at` is the first word of the queue's entries.
 pub(crate) fn joined_ring(digest: u64, ring: Ring, words: &[u64], at: u32, class: Priority) -> u64 {
     let count = ring.count();

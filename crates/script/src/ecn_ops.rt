@@ -2,8 +2,9 @@
 use crate::line::Line;
 use crate::words::Record;
 use crate::words::low_u8;
-use control::ecn::EcnAnswer;
-use control::ecn::EcnProcessorAlone;
+use signals::ecn::EcnAnswer;
+use signals::ecn::EcnProcessor;
+use signals::ecn::EcnProcessorAlone;
 
 const ECN_NEW: u64 = 48;
 
@@ -38,21 +39,23 @@ fn answered(line: Line, call: EcnAnswer) -> EcnPlayed {
 
 // The processor, and its line with a call's answer and signal.
 fn shown(line: Line, answer: u8, signal: bool, alone: EcnProcessorAlone) -> EcnPlayed {
-    let processor = alone.processor();
-    let stats = processor.stats();
     let ledger = alone.ledger();
+    let answered = line.with_u8(answer).with_flag(signal);
     EcnPlayed {
         alone,
-        line: line.with_u8(answer)
-            .with_flag(signal)
-            .with(stats.packets_received)
-            .with(stats.ect0_received)
-            .with(stats.ect1_received)
-            .with(stats.ce_received)
-            .with(stats.not_ect_received)
-            .with(stats.ce_responded)
-            .with_u32(processor.ce_in_window())
-            .with_u32(processor.packets_in_window())
-            .with(ledger.calls()),
+        line: with_processor(answered, alone.processor()).with(ledger.calls()),
     }
+}
+
+// The counts in all and of the window.
+pub(crate) fn with_processor(line: Line, processor: EcnProcessor) -> Line {
+    let stats = processor.stats();
+    line.with(stats.packets_received)
+        .with(stats.ect0_received)
+        .with(stats.ect1_received)
+        .with(stats.ce_received)
+        .with(stats.not_ect_received)
+        .with(stats.ce_responded)
+        .with_u32(processor.ce_in_window())
+        .with_u32(processor.packets_in_window())
 }

@@ -1,7 +1,9 @@
 // Plays a script of calls on the modules: differential/README.md has the records, the operations and the lines.
+mod allocator_ops;
 mod bucket_ops;
 mod coalescing_ops;
 mod config_ops;
+mod controller_ops;
 mod digest;
 mod ecn_ops;
 mod line;
@@ -10,7 +12,9 @@ mod pacer_ops;
 mod peers_ops;
 mod player;
 mod queue_ops;
+mod rate_ops;
 mod rtt_ops;
+mod scorer_ops;
 mod words;
 
 use coalescing_ops::BUFFER_BYTES;

@@ -5,10 +5,10 @@ use numeric::float::bits_of_f32;
 use numeric::float::bits_of_f64;
 
 // The most numbers in a line, the operation's among them.
-const MOST_NUMBERS: usize = 33;
+const MOST_NUMBERS: usize = 59;
 
-// Room for the lines of a batch: a line of 33 numbers of 20 digits, with the spaces and its end, has 693 bytes.
-pub(crate) const LINES_BYTES: usize = BATCH_RECORDS * 704;
+// Room for the lines of a batch: a line of 59 numbers of 20 digits, with the spaces and its end, has 1,239 bytes.
+pub(crate) const LINES_BYTES: usize = BATCH_RECORDS * 1280;
 
 pub(crate) struct Line {
     numbers: [u64; MOST_NUMBERS],
@@ -30,6 +30,17 @@ impl Line {
         if count < MOST_NUMBERS {
             self.numbers[count] = number;
             self.count = count + 1;
+        }
+        self
+    }
+
+    // So many zeros more, which the line has behind its numbers; without room for all it stays.
+    pub(crate) fn with_zeros(mut self, zeros: usize) -> Line {
+        let count = self.count;
+        if count < MOST_NUMBERS {
+            if zeros <= MOST_NUMBERS - count {
+                self.count = count + zeros;
+            }
         }
         self
     }
@@ -78,7 +89,7 @@ impl Line {
 
 // A count held to the room of a line.
 fn held(count: usize) -> usize
-    ensures { λ r. ⌜ r ≤ 33 ⌝ }
+    ensures { λ r. ⌜ r ≤ 59 ⌝ }
 {
     if count < MOST_NUMBERS {
         count

@@ -6,6 +6,7 @@ use crate::digest::DIGEST_START;
 use crate::digest::joined_ring;
 use crate::line::Line;
 use crate::words::Record;
+use crate::words::class_of;
 use crate::words::low_u32;
 use config::config::CongestionConfig;
 use config::config::Priority;
@@ -93,15 +94,6 @@ fn made(line: Line, earlier: WriterPacerAlone, call: WriterPacerLeft) -> PacerPl
 fn left(line: Line, call: WriterPacerLeft) -> PacerPlayed {
     let alone = call.alone;
     quiet(line, call.answer, alone)
-}
-
-// The class of a number, modulo 3.
-fn class_of(number: u64) -> Priority {
-    match number % 3 {
-        0 => Priority::P0,
-        1 => Priority::P1,
-        _ => Priority::P2,
-    }
 }
 
 // The used bytes of the buffer go into the lent part of the pool.

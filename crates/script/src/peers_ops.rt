@@ -1,18 +1,17 @@
 // The tracker of peers.
 use crate::digest::DIGEST_START;
 use crate::digest::joined;
+use crate::digest::joined_flag;
 use crate::line::Line;
-use crate::rtt_ops::last_kind;
-use crate::rtt_ops::last_time;
 use crate::rtt_ops::with_estimator;
 use crate::words::Record;
 use crate::words::f32_of;
 use crate::words::low_u32;
-use control::rtt_estimator::PeerRttAnswer;
-use control::rtt_estimator::PeerRttTracker;
-use control::rtt_estimator::PeerRttTrackerAlone;
-use control::rtt_estimator::RttEstimator;
 use numeric::float::bits_of_f32;
+use signals::rtt_estimator::PeerRttAnswer;
+use signals::rtt_estimator::PeerRttTracker;
+use signals::rtt_estimator::PeerRttTrackerAlone;
+use signals::rtt_estimator::RttEstimator;
 
 const PEERS_NEW: u64 = 80;
 
@@ -84,7 +83,7 @@ fn with_place(line: Line, tracker: PeerRttTracker, place: usize) -> Line {
 }
 
 // The peers in the order they were entered.
-fn digest(tracker: PeerRttTracker) -> u64 {
+pub(crate) fn digest(tracker: PeerRttTracker) -> u64 {
     let count = count_of(tracker);
     let mut digest = DIGEST_START;
     let mut k: usize = 0;
@@ -101,6 +100,7 @@ fn joined_peer(digest: u64, id: u32, estimator: RttEstimator) -> u64 {
     let d = joined(d, bits_of_f32(estimator.baseline()) as u64);
     let d = joined(d, bits_of_f32(estimator.variance()) as u64);
     let d = joined(d, estimator.samples());
-    let d = joined(d, last_kind(estimator));
-    joined(d, last_time(estimator))
+    let last = estimator.last_sample();
+    let d = joined_flag(d, last.is_known());
+    joined(d, last.time_or_0())
 }

@@ -1,10 +1,12 @@
 // The modules that a script plays on, and the operations by suite.
+use crate::allocator_ops;
 use crate::bucket_ops;
 use crate::coalescing_ops;
 use crate::coalescing_ops::BUFFER_BYTES;
 use crate::coalescing_ops::POOL_BYTES;
 use crate::coalescing_ops::Spans;
 use crate::config_ops;
+use crate::controller_ops;
 use crate::ecn_ops;
 use crate::line::LINES_BYTES;
 use crate::line::Line;
@@ -12,17 +14,23 @@ use crate::numeric_ops;
 use crate::pacer_ops;
 use crate::peers_ops;
 use crate::queue_ops;
+use crate::rate_ops;
 use crate::rtt_ops;
+use crate::scorer_ops;
 use crate::words::BATCH_BYTES;
 use crate::words::Record;
 use crate::words::record_at;
 use config::config::CongestionConfig;
-use control::ecn::EcnProcessorAlone;
-use control::rtt_estimator::PeerRttTrackerAlone;
-use control::rtt_estimator::RttEstimatorAlone;
+use control::budget_allocator::BudgetAllocatorAlone;
+use control::controller::CongestionControllerAlone;
+use control::rate_controller::RateControllerAlone;
+use control::scorer::CongestionScorerAlone;
 use pacing::coalescing::CoalescingQueueAlone;
 use pacing::token_bucket::TokenBucketAlone;
 use pacing::writer_pacer::WriterPacerAlone;
+use signals::ecn::EcnProcessorAlone;
+use signals::rtt_estimator::PeerRttTrackerAlone;
+use signals::rtt_estimator::RttEstimatorAlone;
 
 // The suites: an operation's number over 16.
 const NUMERIC: u64 = 1;
@@ -43,6 +51,14 @@ const QUEUE: u64 = 8;
 
 const PACER: u64 = 9;
 
+const RATE: u64 = 10;
+
+const SCORER: u64 = 11;
+
+const ALLOCATOR: u64 = 12;
+
+const CONTROLLER: u64 = 13;
+
 // The byte buffer and the pool are lent beside them. The queue and the pacer are large: each is moved by its own operations only.
 pub(crate) struct Modules {
     small: SmallModules,
@@ -57,6 +73,10 @@ struct SmallModules {
     rtt: RttEstimatorAlone,
     peers: PeerRttTrackerAlone,
     bucket: TokenBucketAlone,
+    rate: RateControllerAlone,
+    scorer: CongestionScorerAlone,
+    allocator: BudgetAllocatorAlone,
+    controller: CongestionControllerAlone,
     spans: Spans,
 }
 
@@ -142,6 +162,10 @@ impl SmallModules {
             rtt,
             peers,
             bucket,
+            rate: rate_ops::first(),
+            scorer: scorer_ops::first(),
+            allocator: allocator_ops::first(),
+            controller: controller_ops::first(),
             spans: Spans { used: 0, lent: 0 },
         }
     }
@@ -164,6 +188,10 @@ impl SmallModules {
             PEERS => self.play_peers(r),
             BUCKET => self.play_bucket(r),
             COALESCING => self.play_coalescing(bytes, pool, r),
+            RATE => self.play_rate(r),
+            SCORER => self.play_scorer(r),
+            ALLOCATOR => self.play_allocator(r),
+            CONTROLLER => self.play_controller(r),
             _ => Played {
                 modules: self,
                 line: Line::new(r.operation),
@@ -236,6 +264,50 @@ impl SmallModules {
         let spans = played.spans;
         let line = played.line;
         self.spans = spans;
+        Played {
+            modules: self,
+            line,
+        }
+    }
+
+    fn play_rate(mut self, r: Record) -> Played {
+        let played = rate_ops::play(self.rate, r);
+        let rate = played.alone;
+        let line = played.line;
+        self.rate = rate;
+        Played {
+            modules: self,
+            line,
+        }
+    }
+
+    fn play_scorer(mut self, r: Record) -> Played {
+        let played = scorer_ops::play(self.scorer, self.config, r);
+        let scorer = played.alone;
+        let line = played.line;
+        self.scorer = scorer;
+        Played {
+            modules: self,
+            line,
+        }
+    }
+
+    fn play_allocator(mut self, r: Record) -> Played {
+        let played = allocator_ops::play(self.allocator, self.config, r);
+        let allocator = played.alone;
+        let line = played.line;
+        self.allocator = allocator;
+        Played {
+            modules: self,
+            line,
+        }
+    }
+
+    fn play_controller(mut self, r: Record) -> Played {
+        let played = controller_ops::play(self.controller, self.config, r);
+        let controller = played.alone;
+        let line = played.line;
+        self.controller = controller;
         Played {
             modules: self,
             line,

@@ -2,10 +2,9 @@
 use crate::line::Line;
 use crate::words::Record;
 use crate::words::f32_of;
-use control::rtt_estimator::LastSample;
-use control::rtt_estimator::RttAnswer;
-use control::rtt_estimator::RttEstimator;
-use control::rtt_estimator::RttEstimatorAlone;
+use signals::rtt_estimator::RttAnswer;
+use signals::rtt_estimator::RttEstimator;
+use signals::rtt_estimator::RttEstimatorAlone;
 
 const RTT_NEW: u64 = 64;
 
@@ -52,24 +51,8 @@ pub(crate) fn with_estimator(line: Line, estimator: RttEstimator) -> Line {
         .with_f32(estimator.baseline())
         .with_f32(estimator.variance())
         .with(estimator.samples())
-        .with(last_kind(estimator))
-        .with(last_time(estimator))
+        .with_flag(estimator.last_sample().is_known())
+        .with(estimator.last_sample().time_or_0())
         .with_f32(estimator.rto())
         .with_flag(estimator.is_inflated())
-}
-
-// 1 where a sample came.
-pub(crate) fn last_kind(estimator: RttEstimator) -> u64 {
-    match estimator.last_sample() {
-        LastSample::Never => 0,
-        LastSample::At(_) => 1,
-    }
-}
-
-// When the last sample came, or 0.
-pub(crate) fn last_time(estimator: RttEstimator) -> u64 {
-    match estimator.last_sample() {
-        LastSample::Never => 0,
-        LastSample::At(time) => time,
-    }
 }

@@ -1,4 +1,5 @@
 // The words of a script, and arguments as the calls take them.
+use config::config::Priority;
 
 // Records of a batch of input.
 pub(crate) const BATCH_RECORDS: usize = 128;
@@ -69,6 +70,11 @@ pub(crate) fn low_u8(word: u64) -> u8 {
     (word % 256) as u8
 }
 
+// The high half of a word.
+pub(crate) fn high_u32(word: u64) -> u32 {
+    low_u32(word >> 32)
+}
+
 // A flag is the last bit.
 pub(crate) fn flag(word: u64) -> bool {
     word % 2 == 1
@@ -77,4 +83,13 @@ pub(crate) fn flag(word: u64) -> bool {
 // The float whose bits are the low half of a word.
 pub(crate) fn f32_of(word: u64) -> f32 {
     numeric::float::f32_of_bits(low_u32(word))
+}
+
+// The class of a number, modulo 3.
+pub(crate) fn class_of(number: u64) -> Priority {
+    match number % 3 {
+        0 => Priority::P0,
+        1 => Priority::P1,
+        _ => Priority::P2,
+    }
 }

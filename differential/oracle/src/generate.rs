@@ -3,16 +3,21 @@
 use crate::random::Random;
 use crate::script::Script;
 
+mod allocator;
 mod bucket;
 mod coalescing;
 mod config;
+mod controller;
 mod ecn;
 mod numeric;
 mod pacer;
 mod peers;
 mod queue;
+mod rate;
 mod records;
 mod rtt;
+mod scorer;
+mod settings;
 mod times;
 mod values;
 
@@ -23,7 +28,7 @@ pub struct Suite {
     episode: fn(&mut Script, &mut Random, u64),
 }
 
-pub static SUITES: [Suite; 9] = [
+pub static SUITES: [Suite; 13] = [
     Suite {
         name: "numeric",
         boundary: numeric::boundary,
@@ -69,6 +74,26 @@ pub static SUITES: [Suite; 9] = [
         boundary: pacer::boundary,
         episode: pacer::episode,
     },
+    Suite {
+        name: "rate",
+        boundary: rate::boundary,
+        episode: rate::episode,
+    },
+    Suite {
+        name: "scorer",
+        boundary: scorer::boundary,
+        episode: scorer::episode,
+    },
+    Suite {
+        name: "allocator",
+        boundary: allocator::boundary,
+        episode: allocator::episode,
+    },
+    Suite {
+        name: "controller",
+        boundary: controller::boundary,
+        episode: controller::episode,
+    },
 ];
 
 /// A fixed list of calls that can be printed by its name; it stands among its suite's boundary cases too.
@@ -77,10 +102,40 @@ pub struct Case {
     calls: fn(&mut Script),
 }
 
-pub static CASES: [Case; 1] = [Case {
-    name: "accident",
-    calls: pacer::accident,
-}];
+pub static CASES: [Case; 8] = [
+    Case {
+        name: "accident",
+        calls: pacer::accident,
+    },
+    Case {
+        name: "rate-factor-one",
+        calls: rate::factor_one,
+    },
+    Case {
+        name: "scorer-eagain",
+        calls: scorer::eagain,
+    },
+    Case {
+        name: "scorer-inflated",
+        calls: scorer::inflated,
+    },
+    Case {
+        name: "three-of-p1",
+        calls: allocator::three_of_p1,
+    },
+    Case {
+        name: "eagain",
+        calls: controller::eagain,
+    },
+    Case {
+        name: "inflated",
+        calls: controller::inflated,
+    },
+    Case {
+        name: "factor-one",
+        calls: controller::factor_one,
+    },
+];
 
 /// The suite of that name.
 pub fn suite(name: &str) -> Option<&'static Suite> {

@@ -9,6 +9,7 @@ mod digest;
 mod generate;
 mod line;
 mod operation;
+mod overflow;
 mod play;
 mod random;
 mod refusal;

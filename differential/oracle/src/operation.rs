@@ -62,3 +62,35 @@ pub const PACER_ENQUEUE_KEYED: u64 = 146;
 pub const PACER_TRY_SEND: u64 = 147;
 pub const PACER_SET_RATE: u64 = 148;
 pub const PACER_CALLS: u64 = 149;
+
+pub const RATE_NEW: u64 = 160;
+pub const RATE_APPLY: u64 = 161;
+pub const RATE_SET: u64 = 162;
+pub const RATE_CALLS: u64 = 163;
+
+pub const SCORER_NEW: u64 = 176;
+pub const SCORER_EAGAIN: u64 = 177;
+pub const SCORER_RTT: u64 = 178;
+pub const SCORER_NACK: u64 = 179;
+pub const SCORER_LOSS: u64 = 180;
+pub const SCORER_TICK: u64 = 181;
+pub const SCORER_CALLS: u64 = 182;
+
+pub const ALLOCATOR_NEW: u64 = 192;
+pub const ALLOCATOR_REGISTER: u64 = 193;
+pub const ALLOCATOR_REGISTER_WEIGHTED: u64 = 194;
+pub const ALLOCATOR_UNREGISTER: u64 = 195;
+pub const ALLOCATOR_REALLOCATE: u64 = 196;
+pub const ALLOCATOR_CALLS: u64 = 197;
+pub const ALLOCATOR_SHOW: u64 = 198;
+
+pub const CONTROLLER_NEW: u64 = 208;
+pub const CONTROLLER_REGISTER: u64 = 209;
+pub const CONTROLLER_TICK: u64 = 210;
+pub const CONTROLLER_EAGAIN: u64 = 211;
+pub const CONTROLLER_RTT: u64 = 212;
+pub const CONTROLLER_NACKS: u64 = 213;
+pub const CONTROLLER_TOS: u64 = 214;
+pub const CONTROLLER_CE: u64 = 215;
+pub const CONTROLLER_SET_RATE: u64 = 216;
+pub const CONTROLLER_CALLS: u64 = 217;

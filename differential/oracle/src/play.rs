@@ -7,16 +7,20 @@ use std::sync::atomic::{AtomicU64, Ordering};
 use crate::line::Lines;
 use crate::script::{read_record, Record};
 
+mod allocator;
 mod bucket;
 pub mod coalescing;
 pub mod config;
+pub mod controller;
 mod ecn;
 mod numeric;
 pub mod pacer;
 mod peers;
 pub mod pool;
 mod queue;
+mod rate;
 mod rtt;
+pub mod scorer;
 
 /// Lines are written out once there are this many bytes of them.
 const WRITTEN_AT: usize = 1 << 16;
@@ -35,6 +39,10 @@ struct Player {
     pool: pool::Pool,
     queue: queue::Queue,
     pacer: pacer::Pacer,
+    rate: rate::Rate,
+    scorer: scorer::Scorer,
+    allocator: allocator::Allocator,
+    controller: controller::Controller,
 }
 
 impl Player {
@@ -59,6 +67,10 @@ impl Player {
                 &mut self.pool,
                 lines,
             ),
+            160..=163 => self.rate.play(record, lines),
+            176..=182 => self.scorer.play(record, self.config.settings(), lines),
+            192..=198 => self.allocator.play(record, self.config.settings(), lines),
+            208..=217 => self.controller.play(record, self.config.settings(), lines),
             _ => {}
         }
         lines.end();

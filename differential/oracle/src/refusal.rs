@@ -6,6 +6,8 @@ pub const SETTINGS: u64 = 2;
 /// A record that is too long.
 pub const LENGTH: u64 = 3;
 pub const RTT: u64 = 4;
+/// A writer's weight; it shares the number of an RTT sample.
+pub const WEIGHT: u64 = 4;
 /// A rate, a bucket's capacity or a byte count.
 pub const RATE: u64 = 6;
 pub const TIME: u64 = 7;
@@ -22,6 +24,8 @@ pub const MAX_CALLS: u64 = 1 << 40;
 pub const MAX_RATE: u64 = 1_000_000_000;
 pub const MAX_RTT_MS: f32 = 1_000_000.0;
 pub const MAX_PEERS: usize = 64;
+pub const MAX_WRITERS: usize = 64;
+pub const MAX_WEIGHT: f32 = 1_000_000.0;
 
 /// The number of the first check that applies, 0 where none does. Callers list input numbers in their order,
 /// then state numbers in document 01's: 17, 11, 13, 15, 16, 14, 12.
@@ -37,6 +41,11 @@ pub fn rtt_beyond(ms: f32) -> bool {
     !(0.0..=MAX_RTT_MS).contains(&ms)
 }
 
+/// Not finite, or above 1,000,000.
+pub fn weight_beyond(weight: f32) -> bool {
+    !weight.is_finite() || weight > MAX_WEIGHT
+}
+
 /// A module's own count of accepted calls and its last time.
 #[derive(Clone, Copy, Default)]
 pub struct Ledger {
@@ -45,6 +54,14 @@ pub struct Ledger {
 }
 
 impl Ledger {
+    /// Of a module that has just been made at a time.
+    pub fn new(time: u64) -> Self {
+        Self {
+            calls: 0,
+            last: time,
+        }
+    }
+
     pub fn used_up(&self) -> bool {
         self.calls >= MAX_CALLS
     }

@@ -76,6 +76,10 @@ pub fn text(record: &Record) -> String {
         POOL_LEND => format!("{a} bytes of the pool are lent"),
         QUEUE_NEW..=QUEUE_CALLS => queue(record),
         PACER_NEW..=PACER_CALLS => pacer(record),
+        RATE_NEW..=RATE_CALLS => rate(record),
+        SCORER_NEW..=SCORER_CALLS => scorer(record),
+        ALLOCATOR_NEW..=ALLOCATOR_SHOW => allocator(record),
+        CONTROLLER_NEW..=CONTROLLER_CALLS => controller(record),
         unknown => format!("unknown operation {unknown} {:?}", record.arguments),
     }
 }
@@ -123,6 +127,77 @@ fn pacer(record: &Record) -> String {
         PACER_TRY_SEND => format!("try_send at time {a}"),
         PACER_SET_RATE => format!("the pacer's set_rate at time {a} to {b}"),
         _ => format!("the pacer's call count becomes {a}"),
+    }
+}
+
+fn rate(record: &Record) -> String {
+    let [a, b, c, d, _] = record.arguments;
+    let (low, high) = (u64::from(u32::MAX), 32);
+    match record.operation {
+        RATE_NEW => format!(
+            "a new rate controller at time {a}: initial {}, least {}, largest {}, step {}, factors {} hard and {} soft",
+            b & low,
+            b >> high,
+            c & low,
+            c >> high,
+            f32_text(d & low),
+            f32_text(d >> high)
+        ),
+        RATE_APPLY => {
+            let action = ["none", "an increase", "a soft decrease", "a hard decrease"];
+            format!("apply_action at time {a}: {}", action[b as usize % 4])
+        }
+        RATE_SET => format!("the rate controller's set_rate at time {a} to {b}"),
+        _ => format!("the rate controller's call count becomes {a}"),
+    }
+}
+
+fn scorer(record: &Record) -> String {
+    let a = record.arguments[0];
+    match record.operation {
+        SCORER_NEW => format!("a new scorer at time {a}"),
+        SCORER_EAGAIN => "the scorer's on_eagain()".into(),
+        SCORER_RTT => "the scorer's on_rtt_inflated()".into(),
+        SCORER_NACK => "the scorer's on_nack()".into(),
+        SCORER_LOSS => "the scorer's on_loss()".into(),
+        SCORER_TICK => format!("the scorer's tick at time {a}"),
+        _ => format!("the scorer's call count becomes {a}"),
+    }
+}
+
+fn allocator(record: &Record) -> String {
+    let [a, b, c, ..] = record.arguments;
+    match record.operation {
+        ALLOCATOR_NEW => "a new allocator".into(),
+        ALLOCATOR_REGISTER => format!("register of id {a} in P{}", b % 3),
+        ALLOCATOR_REGISTER_WEIGHTED => format!(
+            "register_weighted of id {a} in P{} with weight {}",
+            b % 3,
+            f32_text(c)
+        ),
+        ALLOCATOR_UNREGISTER => format!("unregister of id {a}"),
+        ALLOCATOR_REALLOCATE => format!("reallocate to rate {a}"),
+        ALLOCATOR_CALLS => format!("the allocator's call count becomes {a}"),
+        _ => format!("place {a} of the allocator is shown"),
+    }
+}
+
+fn controller(record: &Record) -> String {
+    let [a, b, c, ..] = record.arguments;
+    match record.operation {
+        CONTROLLER_NEW => format!("a new controller at time {a}"),
+        CONTROLLER_REGISTER => format!("register_writer of id {a} in P{}", b % 3),
+        CONTROLLER_TICK => format!("the controller's tick at time {a}"),
+        CONTROLLER_EAGAIN => "the controller's on_eagain()".into(),
+        CONTROLLER_RTT => format!(
+            "on_rtt_sample at time {a} for peer {b} with sample {}",
+            f32_text(c)
+        ),
+        CONTROLLER_NACKS => format!("on_nacks({a})"),
+        CONTROLLER_TOS => format!("on_ecn_tos({a:#04x})"),
+        CONTROLLER_CE => "on_ecn_ce()".into(),
+        CONTROLLER_SET_RATE => format!("the controller's set_rate at time {a} to {b}"),
+        _ => format!("the controller's call count becomes {a}"),
     }
 }
 

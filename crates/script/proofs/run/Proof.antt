@@ -10,6 +10,13 @@ Inv-loop modules₀ bytes₀ pool₀ input₀ out₀ batches₀ modules bytes po
 abbrev μ-loop : tie.MeasureT-loop
 μ-loop modules₀ bytes₀ pool₀ input₀ out₀ batches₀ modules bytes pool input out batches = 4294967296 - batches
 
+-- The modules have more fields than a search enters, so it is handed the loop's test.
+add-batches : tie.Need-add-batches Inv-loop μ-loop
+add-batches c = search (needs, c .before .before .before .before .before .before .before .before .before .before .before .before .before .loop-test .taken)
+
+loop-less : tie.Need-loop-less Inv-loop μ-loop
+loop-less c = search (needs, c .before .before .before .before .before .before .before .before .before .before .before .before .before .loop-test .taken)
+
 pub run-spec : {M : Type 1} → statement M
 run-spec = tie.close (tie.spec Inv-loop μ-loop (λ c κs. tt) (λ c. tt) (λ c κs. tt) (λ c κs. tt) (λ c κs. tt)
-    (λ c κs. tt) (λ c. tt) (λ c. tt) (λ c. search needs) (λ c. search needs) (λ c. tt) (λ c. tt))
+    (λ c κs. tt) (λ c. tt) (λ c. tt) add-batches loop-less (λ c. tt) (λ c. tt))

@@ -34,20 +34,53 @@ pub const FIELD_NAMES: [&str; 25] = [
     "ecn_mode",
 ];
 
+pub const ENABLED: u64 = 0;
 pub const MIN_RATE: u64 = 1;
 pub const MAX_RATE: u64 = 2;
 pub const AI_STEP: u64 = 3;
 pub const MD_HARD: u64 = 4;
-const MD_SOFT: u64 = 5;
+pub const MD_SOFT: u64 = 5;
+pub const STABLE_WINDOW: u64 = 6;
+pub const COOLDOWN: u64 = 7;
+pub const TICK: u64 = 8;
 pub const DECAY: u64 = 9;
 pub const DECREASE: u64 = 10;
-const INCREASE: u64 = 11;
+pub const INCREASE: u64 = 11;
+pub const HYSTERESIS: u64 = 12;
+pub const EAGAIN_IS_HARD: u64 = 13;
+pub const EAGAIN_IMPULSE: u64 = 14;
+pub const RTT_IMPULSE: u64 = 15;
+pub const NACK_THRESHOLD: u64 = 16;
+pub const NACK_IMPULSE: u64 = 17;
 pub const REPAIR_RATIO: u64 = 18;
 pub const QUEUE_P0: u64 = 19;
 pub const QUEUE_P1: u64 = 20;
 pub const QUEUE_P2: u64 = 21;
 pub const P0_SHARE: u64 = 22;
 pub const P0_MIN: u64 = 23;
+pub const ECN_MODE: u64 = 24;
+
+/// Settings of which each is refused, whatever the others are.
+pub const REFUSED_SETTINGS: [(u64, u64); 18] = [
+    (MIN_RATE, 0),
+    (MAX_RATE, 0),
+    (MAX_RATE, RATE_LIMIT + 1),
+    (AI_STEP, RATE_LIMIT + 1),
+    (P0_MIN, RATE_LIMIT + 1),
+    (MD_HARD, 0),
+    (MD_HARD, NAN as u64),
+    (DECAY, NAN as u64),
+    (DECAY, 0),
+    (DECREASE, 0),
+    (REPAIR_RATIO, 0x7f80_0000),
+    (P0_SHARE, 0xbf80_0000),
+    (QUEUE_P0, 0),
+    (QUEUE_P0, 129),
+    (QUEUE_P1, 513),
+    (QUEUE_P1, 0),
+    (QUEUE_P2, 129),
+    (QUEUE_P2, 1 << 32),
+];
 
 /// The fields that are f32.
 pub fn is_float(field: u64) -> bool {

@@ -56,14 +56,14 @@ fn at_limit(script: &mut Script) {
 }
 
 /// What a peer sends and routers mark, in parts of 1000.
-struct Traffic {
+pub struct Traffic {
     not_ect: u64,
     ce: u64,
     ect1: u64,
 }
 
 impl Traffic {
-    fn new(random: &mut Random) -> Self {
+    pub fn new(random: &mut Random) -> Self {
         Self {
             not_ect: random.pick(&[0, 50, 300, 950]),
             ce: random.pick(&[0, 3, 5, 10, 10, 15, 30, 300, 1000]),
@@ -88,10 +88,14 @@ impl Traffic {
             script.call(PROCESS_CE, &[random.pick(&[0, u64::MAX])]);
             return;
         }
+        let tos = self.tos(random);
+        script.call(PROCESS_TOS, &[tos]);
+    }
+
+    pub fn tos(&self, random: &mut Random) -> u64 {
         let dscp = random.pick(&[0, 0, 0xb8, 0xfc]);
         let tos = self.codepoint(random) | dscp;
-        let tos = widened(random, tos, 8);
-        script.call(PROCESS_TOS, &[tos]);
+        widened(random, tos, 8)
     }
 }
 

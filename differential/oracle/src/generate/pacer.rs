@@ -357,28 +357,6 @@ fn rates(script: &mut Script) {
     }
 }
 
-/// Settings of which each is refused, whatever the others are.
-const REFUSED_SETTINGS: [(u64, u64); 18] = [
-    (MIN_RATE, 0),
-    (MAX_RATE, 0),
-    (MAX_RATE, RATE_LIMIT + 1),
-    (AI_STEP, RATE_LIMIT + 1),
-    (P0_MIN, RATE_LIMIT + 1),
-    (MD_HARD, 0),
-    (MD_HARD, NAN as u64),
-    (DECAY, NAN as u64),
-    (DECAY, 0),
-    (DECREASE, 0),
-    (REPAIR_RATIO, 0x7f80_0000),
-    (P0_SHARE, 0xbf80_0000),
-    (QUEUE_P0, 0),
-    (QUEUE_P0, 129),
-    (QUEUE_P1, 513),
-    (QUEUE_P1, 0),
-    (QUEUE_P2, 129),
-    (QUEUE_P2, 1 << 32),
-];
-
 /// A pacer, played along so that it is known what is told.
 struct Run {
     pacer: Pacer,

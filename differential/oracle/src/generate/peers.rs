@@ -78,7 +78,7 @@ fn news(script: &mut Script) {
 }
 
 /// Ids of one kind: `count` of them, `stride` apart.
-struct Ids {
+pub struct Ids {
     count: u64,
     stride: u64,
     first: u64,
@@ -86,14 +86,19 @@ struct Ids {
 
 impl Ids {
     fn new(random: &mut Random) -> Self {
+        let count = random.pick(&[1, 2, 5, 10, 63, 64, 65, 66, 90, 300]);
+        Self::of(random, count)
+    }
+
+    pub fn of(random: &mut Random, count: u64) -> Self {
         Self {
-            count: random.pick(&[1, 2, 5, 10, 63, 64, 65, 66, 90, 300]),
+            count,
             stride: random.pick(&[1, 1, 1 << 20, 0x9e37_79b1]),
             first: random.pick(&[0, 1, u32::MAX as u64]),
         }
     }
 
-    fn next(&self, random: &mut Random) -> u64 {
+    pub fn next(&self, random: &mut Random) -> u64 {
         let id = self.stride * random.below(self.count) + self.first;
         widened(random, id & u64::from(u32::MAX), 32)
     }

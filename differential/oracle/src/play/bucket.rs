@@ -23,10 +23,7 @@ impl Bucket {
         clock::set(time);
         Self {
             bucket: TokenBucket::new(rate, capacity),
-            ledger: Ledger {
-                calls: 0,
-                last: time,
-            },
+            ledger: Ledger::new(time),
         }
     }
 

@@ -29,7 +29,8 @@ impl Ecn {
         };
         lines.number(answer);
         lines.number(signal);
-        self.state(lines);
+        lines.numbers(&state(&self.processor));
+        lines.number(self.ledger.calls);
     }
 
     fn call(&mut self, process: impl FnOnce(&mut EcnProcessor) -> bool) -> (u64, bool) {
@@ -39,17 +40,19 @@ impl Ecn {
         self.ledger.count();
         (refusal::ACCEPTED, process(&mut self.processor))
     }
+}
 
-    fn state(&self, lines: &mut Lines) {
-        let stats = self.processor.stats();
-        lines.number(stats.packets_received);
-        lines.number(stats.ect0_received);
-        lines.number(stats.ect1_received);
-        lines.number(stats.ce_received);
-        lines.number(stats.not_ect_received);
-        lines.number(stats.ce_responded);
-        lines.number(self.processor.ce_in_window());
-        lines.number(self.processor.packets_in_window());
-        lines.number(self.ledger.calls);
-    }
+/// The statistics, in the Rust's order, and the window.
+pub fn state(processor: &EcnProcessor) -> [u64; 8] {
+    let stats = processor.stats();
+    [
+        stats.packets_received,
+        stats.ect0_received,
+        stats.ect1_received,
+        stats.ce_received,
+        stats.not_ect_received,
+        stats.ce_responded,
+        processor.ce_in_window().into(),
+        processor.packets_in_window().into(),
+    ]
 }

@@ -43,10 +43,7 @@ impl Pacer {
                 Slots::new(p0 + p1, p2),
             ],
             pacer: WriterPacer::with_rate(config, rate),
-            ledger: Ledger {
-                calls: 0,
-                last: time,
-            },
+            ledger: Ledger::new(time),
         }
     }
 

@@ -46,7 +46,8 @@ impl Peers {
         lines.number(answer);
         lines.number(self.tracker.any_inflated());
         lines.number(self.tracker.peer_count() as u64);
-        lines.numbers(&[self.ledger.calls, self.ledger.last, self.digest()]);
+        let digest = digest(&self.tracker, &self.ids);
+        lines.numbers(&[self.ledger.calls, self.ledger.last, digest]);
     }
 
     /// A refused default leaves the zero tracker.
@@ -79,23 +80,12 @@ impl Peers {
         answer
     }
 
-    fn digest(&self) -> u64 {
-        let mut digest = digest::START;
-        for &id in &self.ids {
-            digest = digest::joined(digest, id.into());
-            digest = rtt::state(self.estimator(id))
-                .into_iter()
-                .fold(digest, digest::joined);
-        }
-        digest
-    }
-
     fn show(&self, place: u64, lines: &mut Lines) {
         lines.number(place);
         match self.ids.get(place as usize) {
             None => lines.numbers(&[0; 9]),
             Some(&id) => {
-                let estimator = self.estimator(id);
+                let estimator = estimator(&self.tracker, id);
                 lines.number(id);
                 lines.numbers(&rtt::state(estimator));
                 lines.f32(estimator.rto());
@@ -103,8 +93,20 @@ impl Peers {
             }
         }
     }
+}
 
-    fn estimator(&self, id: u32) -> &RttEstimator {
-        self.tracker.get(id).expect("a listed peer is tracked")
+/// The digest of a tracker's peers, in the order of `ids`.
+pub fn digest(tracker: &PeerRttTracker, ids: &[u32]) -> u64 {
+    let mut digest = digest::START;
+    for &id in ids {
+        digest = digest::joined(digest, id.into());
+        digest = rtt::state(estimator(tracker, id))
+            .into_iter()
+            .fold(digest, digest::joined);
     }
+    digest
+}
+
+fn estimator(tracker: &PeerRttTracker, id: u32) -> &RttEstimator {
+    tracker.get(id).expect("a listed peer is tracked")
 }

@@ -3,8 +3,8 @@ use Rattle.pacing.specs.WriterPacer.{rateSet}
 use Rattle.pacing.proofs.writer_pacer.PacerCore.set_rate.Statement.{statement}
 use Rattle.pacing.proofs.writer_pacer.PacerCore.set_rate.Tie as tie
 
-clamped-requires : tie.Need-clamped-requires
-clamped-requires c κs = search needs
+clamp-u32-requires : tie.Need-clamp-u32-requires
+clamp-u32-requires c κs = search needs
 
 set-rate-requires : tie.Need-set-rate-requires
 set-rate-requires c κs = search needs
@@ -17,9 +17,9 @@ set-capacity-requires c κs = search needs
 
 returns : tie.Need-returns
 unfolding rateSet
-returns c = rw (← c .before .before .before .clamped .ensures, ← c .before .before .set-rate .ensures, ← c .before .burst .ensures, ← c .set-capacity .ensures)
+returns c = rw (← c .before .before .before .clamp-u32 .ensures, ← c .before .before .set-rate .ensures, ← c .before .burst .ensures, ← c .set-capacity .ensures)
 
 pub set-rate-spec : {M : Type 1} → statement M
 set-rate-spec =
     tie.close
-    (tie.spec clamped-requires set-rate-requires burst-requires set-capacity-requires returns)
+    (tie.spec clamp-u32-requires set-rate-requires burst-requires set-capacity-requires returns)

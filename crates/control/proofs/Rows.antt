@@ -1,0 +1,59 @@
+-- Laws of rows: a row is read, one is put in or taken out, and all are mapped, place by place. Assumes nothing.
+use Prim.Native.Nat.{ℕ, zero, suc, _≤_, _<_}
+use mathlib.Core.List.{List, [], _∷_, _++_, map}
+use mathlib.Core.Path.{_≡_, refl, ap}
+use native.Mathlib.Omega.{arith}
+use lib.ListN.{length, take, drop, getD, set}
+use Rattle.control.specs.BudgetAllocator.{lacking}
+
+-- of the first n rows, from row k on: row k, and those after it
+pub rows-from : {A : Type 0} (l : List A) (n k : ℕ) (d : A) → k < n → n ≤ length l → drop k (take n l) ≡ getD l k d ∷ drop (suc k) (take n l)
+rows-from [] n k d lt le = absurd (omega arith)
+rows-from (x ∷ xs) zero k d lt le = absurd (omega arith)
+rows-from (x ∷ xs) (suc n) zero d lt le = refl
+rows-from (x ∷ xs) (suc n) (suc k) d lt le = rows-from xs n k d (omega arith) (omega arith)
+
+-- after all of them there are none
+pub rows-end : {A : Type 0} (l : List A) (n k : ℕ) → n ≤ k → drop k (take n l) ≡ []
+rows-end l zero zero le = refl
+rows-end l zero (suc k) le = refl
+rows-end [] (suc n) zero le = absurd (omega arith)
+rows-end [] (suc n) (suc k) le = refl
+rows-end (x ∷ xs) (suc n) zero le = absurd (omega arith)
+rows-end (x ∷ xs) (suc n) (suc k) le = rows-end xs n k (omega arith)
+
+-- a carried element that is exchanged for row k now lies before row k + 1
+pub carry-on : {A : Type 0} (l : List A) (k : ℕ) (c d : A) → k < length l →
+    take (suc k) (set l k c) ++ (getD l k d ∷ drop (suc k) (set l k c)) ≡ take k l ++ (c ∷ drop k l)
+carry-on [] k c d lt = absurd (omega arith)
+carry-on (x ∷ xs) zero c d lt = refl
+carry-on (x ∷ xs) (suc k) c d lt = ap (λ (r : List _). x ∷ r) (carry-on xs k c d (omega arith))
+
+-- one that lies before row k + 1 and is exchanged for row k lies before row k
+pub carry-back : {A : Type 0} (l : List A) (k : ℕ) (c d : A) → k < length l →
+    take k (set l k c) ++ (getD l k d ∷ drop k (set l k c)) ≡ take (suc k) l ++ (c ∷ drop (suc k) l)
+carry-back [] k c d lt = absurd (omega arith)
+carry-back (x ∷ xs) zero c d lt = refl
+carry-back (x ∷ xs) (suc k) c d lt = ap (λ (r : List _). x ∷ r) (carry-back xs k c d (omega arith))
+
+-- without the carried element the rows are left
+pub lacking-carried : {A : Type 0} (l : List A) (k : ℕ) (c : A) → k ≤ length l → lacking (take k l ++ (c ∷ drop k l)) k ≡ l
+unfolding lacking
+lacking-carried l zero c le = refl
+lacking-carried [] (suc k) c le = absurd (omega arith)
+lacking-carried (x ∷ xs) (suc k) c le = ap (λ (r : List _). x ∷ r) (lacking-carried xs k c (omega arith))
+
+-- also where it lies after them all
+pub lacking-last : {A : Type 0} (l : List A) (k : ℕ) (c : A) → length l ≤ k → lacking (take k l ++ (c ∷ drop k l)) (length l) ≡ l
+unfolding lacking
+lacking-last [] zero c le = refl
+lacking-last [] (suc k) c le = refl
+lacking-last (x ∷ xs) zero c le = absurd (omega arith)
+lacking-last (x ∷ xs) (suc k) c le = ap (λ (r : List _). x ∷ r) (lacking-last xs k c (omega arith))
+
+-- all rows before row k are mapped, and then row k
+pub mapped-step : {A : Type 0} (f : A → A) (l : List A) (k : ℕ) (d : A) → k < length l →
+    set (map f (take k l) ++ drop k l) k (f (getD (map f (take k l) ++ drop k l) k d)) ≡ map f (take (suc k) l) ++ drop (suc k) l
+mapped-step f [] k d lt = absurd (omega arith)
+mapped-step f (x ∷ xs) zero d lt = refl
+mapped-step f (x ∷ xs) (suc k) d lt = ap (λ (r : List _). f x ∷ r) (mapped-step f xs k d (omega arith))

@@ -1,0 +1,65 @@
+use Prim.Native.Nat.{ℕ, _≤_, _<_, _-_}
+use mathlib.Core.Bool.{false}
+use mathlib.Core.Path.{_≡_, sym, _∙_}
+use native.Mathlib.Omega.{arith}
+use borrow.Author.Count.{below-none, below-more}
+use borrow.Author.Needs.{needs}
+use Rattle.numeric.proofs.Search.{first-none, first-is}
+use Rattle.control.specs.BudgetAllocator.{placeFor, takenOf, rowAt, comesBefore}
+use Rattle.control.proofs.budget_allocator.WriterTable.place_for.Statement.{statement}
+use Rattle.control.proofs.budget_allocator.WriterTable.place_for.Tie as tie
+
+abbrev Inv-loop : tie.InvT-loop
+Inv-loop writer self n k₀ k = (k ≤ takenOf (self .count)) × ((j : ℕ) → j < k → comesBefore writer (rowAt (self .rows) j) ≡ false)
+
+abbrev μ-loop : tie.MeasureT-loop
+μ-loop writer self n k₀ k = takenOf (self .count) - k
+
+taken-requires : tie.Need-taken-requires Inv-loop μ-loop
+taken-requires c κs = search needs
+
+loop-holds : tie.Need-loop-holds Inv-loop μ-loop
+loop-holds c = (search needs, below-none _)
+
+mul-row : tie.Need-mul-row Inv-loop μ-loop
+mul-row c = search needs
+
+element-copy-out-row : tie.Need-element-copy-out-row Inv-loop μ-loop
+element-copy-out-row c = search needs
+
+comes-before-requires : tie.Need-comes-before-requires Inv-loop μ-loop
+comes-before-requires c κs = search needs
+
+add-k : tie.Need-add-k Inv-loop μ-loop
+add-k c = search needs
+
+loop-less : tie.Need-loop-less Inv-loop μ-loop
+loop-less c = search needs
+
+loop-again : tie.Need-loop-again Inv-loop μ-loop
+loop-again c = (omega (arith, c .before .before .before .before .before .taken .ensures), below-more _ _ (c .before .before .before .before .loop .inv .1) (sym (c .before .comes-before .ensures) ∙ c .if2 .left))
+
+returns : tie.Need-returns Inv-loop μ-loop
+unfolding placeFor
+returns c = c .before .before .taken .ensures ∙ sym (first-none _ _ (λ j l. c .before .loop .inv .1 j (omega (arith, c .before .before .taken .ensures))))
+
+returns-2 : tie.Need-returns-2 Inv-loop μ-loop
+unfolding placeFor
+returns-2 c = let l = c .before .before .before .before .loop in sym (first-is _ _ (l .k) (omega (arith, c .before .before .before .before .before .taken .ensures)) (l .inv .1) (sym (c .before .comes-before .ensures) ∙ c .if2 .taken))
+
+pub place-for-spec : {M : Type 1} → statement M
+place-for-spec =
+    tie.close
+    (tie.spec
+    Inv-loop
+    μ-loop
+    taken-requires
+    loop-holds
+    mul-row
+    element-copy-out-row
+    comes-before-requires
+    add-k
+    loop-less
+    loop-again
+    returns
+    returns-2)

@@ -1,0 +1,30 @@
+use borrow.Author.Needs.{needs}
+use Rattle.control.specs.RateController.{lostFrom}
+use Rattle.control.proofs.rate_controller.RateControllerMetrics.lost.Statement.{statement}
+use Rattle.control.proofs.rate_controller.RateControllerMetrics.lost.Tie as tie
+
+saturating-sub-u32-requires : tie.Need-saturating-sub-u32-requires
+saturating-sub-u32-requires c κs = search needs
+
+cast-bounded-add : tie.Need-cast-bounded-add
+cast-bounded-add c = search needs
+
+bounded-add-requires : tie.Need-bounded-add-requires
+bounded-add-requires c κs = search needs
+
+min-u32-requires : tie.Need-min-u32-requires
+min-u32-requires c κs = search needs
+
+returns : tie.Need-returns
+unfolding lostFrom
+returns c = rw (← c .before .before .saturating-sub-u32 .ensures, ← c .before .bounded-add .ensures, ← c .min-u32 .ensures)
+
+pub lost-spec : {M : Type 1} → statement M
+lost-spec =
+    tie.close
+    (tie.spec
+    saturating-sub-u32-requires
+    cast-bounded-add
+    bounded-add-requires
+    min-u32-requires
+    returns)

@@ -1,0 +1,15 @@
+use borrow.Author.Needs.{needs}
+use Rattle.signals.proofs.ecn.EcnProcessorAlone.new.Statement.{statement}
+use Rattle.signals.proofs.ecn.EcnProcessorAlone.new.Tie as tie
+
+new-requires : tie.Need-new-requires
+new-requires c κs = search needs
+
+new-requires-2 : tie.Need-new-requires-2
+new-requires-2 c κs = search needs
+
+returns : tie.Need-returns
+returns c = rw (← c .before .new .ensures, ← c .new2 .ensures)
+
+pub new-spec : {M : Type 1} → statement M
+new-spec = tie.close (tie.spec new-requires new-requires-2 returns)

@@ -1,0 +1,4 @@
+pub mod Ecn
+pub mod EcnAlone
+pub mod RttEstimator
+pub mod RttEstimatorAlone
