@@ -13,7 +13,7 @@ use Rattle.signals.specs.declared.ecn.EcnProcessor.{EcnProcessor}
 use Rattle.signals.specs.declared.ecn.Processed.{Processed}
 use Rattle.signals.specs.declared.rtt_estimator.PeerRttTracker.{PeerRttTracker}
 use Rattle.control.specs.BudgetAllocator.{allocationConfigOf, newAllocator, one, registered, reallocated}
-use Rattle.control.specs.Metrics.{noMetrics, rateRecorded, eagainRecorded, ceRecorded}
+use Rattle.control.specs.Metrics.{noMetrics, rateRecorded, changeRecorded, eagainRecorded, ceRecorded}
 use Rattle.control.specs.RateController.{paramsOf, withParams, applied, rateSet}
 use Rattle.control.specs.Scorer.{scorerConfigOf, newScorer, onRttInflated, onNack, ticked}
 use Rattle.control.specs.Scorer as Scorer
@@ -128,12 +128,10 @@ withRate k s r m = coreOf s r (k .ecn) m (k .nacks) (k .«last_tick»)
 
 abbrev pub steeredBy : ControllerCore → CongestionScorer → Applied → CoreTicked
 steeredBy k s a =
-    cond (a .changed)
-    (record {
-      core = withRate k s (a .controller) (rateRecorded (k .metrics) (a .controller .«current_rate»));
-      changed = true;
-    })
-    (record { core = withRate k s (a .controller) (k .metrics); changed = false })
+    record {
+      core = withRate k s (a .controller) (changeRecorded (k .metrics) (a .changed) (a .controller .«current_rate»));
+      changed = a .changed;
+    }
 
 abbrev pub steeredFor : ControllerCore → ControllerConfig → ℕ → Ticked → CoreTicked
 steeredFor k c time t = steeredBy k (t .scorer) (applied (k .«rate_controller») (c .rate) time (t .action))

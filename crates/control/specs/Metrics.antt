@@ -1,5 +1,6 @@
 -- The metrics that the controller's calls write (document 01, metrics.rs: "The fields that ported calls write"). Definitions only.
 use Prim.Native.Nat.{ℕ, _+_, min}
+use mathlib.Core.Bool.{Bool, cond}
 use Rattle.control.specs.declared.metrics.CongestionMetrics.{CongestionMetrics}
 
 abbrev pub metricsOf : ℕ → ℕ → ℕ → CongestionMetrics
@@ -13,6 +14,10 @@ noMetrics = metricsOf 0 0 0
 
 abbrev pub rateRecorded : CongestionMetrics → ℕ → CongestionMetrics
 rateRecorded m rate = metricsOf rate (m .«eagain_total») (m .«ecn_ce_received»)
+
+-- a rate is recorded where it changed
+unfoldable pub changeRecorded : CongestionMetrics → Bool → ℕ → CongestionMetrics
+changeRecorded m changed rate = cond changed (rateRecorded m rate) m
 
 abbrev pub eagainRecorded : CongestionMetrics → CongestionMetrics
 eagainRecorded m = metricsOf (m .«current_rate_bps») (next (m .«eagain_total»)) (m .«ecn_ce_received»)

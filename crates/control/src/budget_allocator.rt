@@ -244,6 +244,13 @@ impl WriterTable {
         self.count
     }
 
+    // All rows at once, for a reader of every update.
+    pub fn rows(self) -> [WriterInfo; 64]
+        ensures { λ r. ⌜ r ≡ self .rows ⌝ }
+    {
+        self.rows
+    }
+
     // The writer in a row, blank where none stands.
     pub fn writer_at(self, place: usize) -> WriterInfo
         ensures { λ r. ⌜ r ≡ writerAt self place ⌝ }

@@ -229,16 +229,10 @@ impl ControllerCore {
         let applied = self.rate_controller.apply_action(config.rate, time, action);
         let rate = applied.controller;
         self.rate_controller = rate;
-        if applied.changed {
-            self.metrics = self.metrics.record_rate(rate.rate());
-            return CoreTicked {
-                core: self,
-                changed: true,
-            };
-        }
+        self.metrics = self.metrics.record_change(applied.changed, rate.rate());
         CoreTicked {
             core: self,
-            changed: false,
+            changed: applied.changed,
         }
     }
 

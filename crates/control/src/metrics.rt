@@ -1,6 +1,6 @@
 // The metrics that the controller's calls write.
 ghost use mathlib.Core.Path.{_≡_};
-ghost use Rattle.control.specs.Metrics.{noMetrics, rateRecorded, eagainRecorded, ceRecorded};
+ghost use Rattle.control.specs.Metrics.{noMetrics, rateRecorded, changeRecorded, eagainRecorded, ceRecorded};
 use numeric::integer::increment;
 
 pub struct CongestionMetrics {
@@ -26,6 +26,17 @@ impl CongestionMetrics {
         CongestionMetrics {
             current_rate_bps: rate_bps,
             ..self
+        }
+    }
+
+    // A rate that changed.
+    pub fn record_change(self, changed: bool, rate_bps: u32) -> CongestionMetrics
+        ensures { λ r. ⌜ r ≡ changeRecorded self changed «rate_bps» ⌝ }
+    {
+        if changed {
+            self.record_rate(rate_bps)
+        } else {
+            self
         }
     }
 

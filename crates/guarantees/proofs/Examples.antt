@@ -9,6 +9,7 @@ use Rattle.control.specs.BudgetAllocator.{weightsFrom, reserveOf, splitOf, left
 use Rattle.control.specs.Controller as controller
 use Rattle.control.specs.Controller.{newCore, onInflated, onWindow, steered, coreTicked, newController, sampled, controllerTicked, fullForPeer}
 use Rattle.control.specs.ControllerAlone.{leftBy, signalledAlone, eagainAlone, sampledAlone, tickedAlone}
+use Rattle.control.specs.Metrics.{changeRecorded}
 use Rattle.control.specs.RateController.{decreased, gainedFrom, lostFrom, softened, hardened, withParams, changedTo, applied}
 use Rattle.control.specs.Scorer as scorer
 use Rattle.control.specs.Scorer.{addedIf, impulseOf, tickMeasured, congestionMeasured, congestedFor, onRttInflated, inCooldown, canIncrease, congestedAt, evaluatedStable, evaluatedCongested, evaluated, ticked}
@@ -25,5 +26,5 @@ use Rattle.pacing.specs.WriterPacerAlone.{handedAlone, sentAlone}
 use Rattle.guarantees.specs.Examples.{table, Settled}
 
 pub settled : Settled table
-unfolding scaled ofInt ofBits toBits add sub mul div lt le toUnsigned isNan recorded responded counted windowSignals closed processedTos updated joined joinedAll credit waitOf refilled tried told answerOf first found inserted exchanged insertNoted entries.counted look entered isShort roomy nextSlot joins placed forced placedIn enqueueP0 enqueueP1 enqueueP2 enqueue frontOf gone attemptP0 paid waited limited attempt handInNoted sentNoted sendNoted handInWritten handedBy wordsHandedBy attemptBy sentBy wordsSentBy handedAlone sentAlone inflated placeOf trackerUpdated fullFor anyInflated sampleOut weightsFrom reserveOf splitOf leftFrom sharesOf allottedTable distributedFrom reallocated controller.onEagain newCore onInflated onWindow steered coreTicked newController sampled controllerTicked fullForPeer leftBy signalledAlone eagainAlone sampledAlone tickedAlone decreased gainedFrom lostFrom softened hardened withParams changedTo applied scorer.onEagain addedIf impulseOf tickMeasured congestionMeasured congestedFor onRttInflated inCooldown canIncrease congestedAt evaluatedStable evaluatedCongested evaluated ticked
+unfolding scaled ofInt ofBits toBits add sub mul div lt le toUnsigned isNan recorded responded counted windowSignals closed processedTos updated joined joinedAll credit waitOf refilled tried told answerOf first found inserted exchanged insertNoted entries.counted look entered isShort roomy nextSlot joins placed forced placedIn enqueueP0 enqueueP1 enqueueP2 enqueue frontOf gone attemptP0 paid waited limited attempt handInNoted sentNoted sendNoted handInWritten handedBy wordsHandedBy attemptBy sentBy wordsSentBy handedAlone sentAlone inflated placeOf trackerUpdated fullFor anyInflated sampleOut weightsFrom reserveOf splitOf leftFrom sharesOf allottedTable distributedFrom reallocated controller.onEagain newCore onInflated onWindow steered coreTicked newController sampled controllerTicked fullForPeer leftBy signalledAlone eagainAlone sampledAlone tickedAlone decreased gainedFrom lostFrom softened hardened withParams changedTo applied changeRecorded scorer.onEagain addedIf impulseOf tickMeasured congestionMeasured congestedFor onRttInflated inCooldown canIncrease congestedAt evaluatedStable evaluatedCongested evaluated ticked
 settled = (refl, (refl, (refl, (refl, (refl, (refl, (refl, (refl, (refl, (refl, (refl, (refl, (refl, (refl, (refl, tt)))))))))))))))

@@ -162,25 +162,24 @@ impl PeerRttTracker {
     }
 
     // One sample more for a peer, which is entered where it is new; a full table takes no new peer.
-    pub fn update(self, time: u64, peer_id: u32, rtt_ms: f32) -> PeerRttTracker
+    pub fn update(mut self, time: u64, peer_id: u32, rtt_ms: f32) -> PeerRttTracker
         ensures { λ r. ⌜ r ≡ trackerUpdated self time «peer_id» «rtt_ms» ⌝ }
     {
         let n = known(self.count);
         let at = place_of(&self.ids, self.count, peer_id);
-        let mut t = self;
         if at < n {
-            let peer = t.peers[at];
-            t.peers[at] = peer.update(time, rtt_ms);
-            return t;
+            let peer = self.peers[at];
+            self.peers[at] = peer.update(time, rtt_ms);
+            return self;
         }
         if n < MOST_PEERS {
-            let peer = RttEstimator::new(t.default_ms);
-            t.ids[n] = peer_id;
-            t.peers[n] = peer.update(time, rtt_ms);
-            t.count = n as u16 + 1;
-            return t;
+            let peer = RttEstimator::new(self.default_ms);
+            self.ids[n] = peer_id;
+            self.peers[n] = peer.update(time, rtt_ms);
+            self.count = n as u16 + 1;
+            return self;
         }
-        t
+        self
     }
 
     // Whether a peer is not there and there is no room for it.
@@ -195,8 +194,17 @@ impl PeerRttTracker {
         n >= MOST_PEERS
     }
 
-    // Whether any peer's round-trip time is inflated.
+    // Whether any peer's round-trip time is inflated; with no peers the table is not looked at.
     pub fn any_inflated(self) -> bool
+        ensures { λ r. ⌜ r ≡ anyInflated self ⌝ }
+    {
+        if self.count == 0 {
+            return false;
+        }
+        self.finds_inflated()
+    }
+
+    fn finds_inflated(self) -> bool
         ensures { λ r. ⌜ r ≡ anyInflated self ⌝ }
     {
         let n = known(self.count);

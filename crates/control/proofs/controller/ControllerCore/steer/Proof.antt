@@ -12,24 +12,14 @@ apply-action-requires c κs = search needs
 rate-requires : tie.Need-rate-requires
 rate-requires c κs = search needs
 
-record-rate-requires : tie.Need-record-rate-requires
-record-rate-requires c κs = search needs
+record-change-requires : tie.Need-record-change-requires
+record-change-requires c κs = search needs
 
 returns : tie.Need-returns
 unfolding steered
-returns c = rw (← c .before .before .before .before .before .before .tick .ensures, ← c .before .before .before .before .apply-action .ensures, c .before .before .if1 .taken, ← c .before .rate2 .ensures, ← c .record-rate .ensures)
-
-returns-2 : tie.Need-returns-2
-unfolding steered
-returns-2 c = rw (← c .before .before .before .before .tick .ensures, ← c .before .before .apply-action .ensures, c .if1 .left)
+returns c = rw (← c .before .before .before .before .before .tick .ensures, ← c .before .before .before .apply-action .ensures, ← c .before .rate2 .ensures, ← c .record-change .ensures)
 
 pub steer-spec : {M : Type 1} → statement M
 steer-spec =
     tie.close
-    (tie.spec
-    tick-requires
-    apply-action-requires
-    rate-requires
-    record-rate-requires
-    returns
-    returns-2)
+    (tie.spec tick-requires apply-action-requires rate-requires record-change-requires returns)

@@ -19,11 +19,11 @@ element-copy-out-peer c = search needs
 update-requires : tie.Need-update-requires
 update-requires c κs = search needs
 
-mul-t15 : tie.Need-mul-t15
-mul-t15 c = search needs
+mul-t13 : tie.Need-mul-t13
+mul-t13 c = search needs
 
-element-set-from-t : tie.Need-element-set-from-t
-element-set-from-t c = search needs
+element-set-from-self : tie.Need-element-set-from-self
+element-set-from-self c = search needs
 
 returns : tie.Need-returns
 unfolding trackerUpdated
@@ -32,26 +32,26 @@ returns c = rw (← c .before .before .before .before .before .before .known .en
 new-requires : tie.Need-new-requires
 new-requires c κs = search needs
 
-mul-t : tie.Need-mul-t
-mul-t c = search needs
+mul-self : tie.Need-mul-self
+mul-self c = search needs
 
-element-write-t : tie.Need-element-write-t
-element-write-t c = search needs
+element-write-self : tie.Need-element-write-self
+element-write-self c = search needs
 
 update-requires-2 : tie.Need-update-requires-2
 update-requires-2 c κs = search needs
 
-mul-t22 : tie.Need-mul-t22
-mul-t22 c = search needs
+mul-t20 : tie.Need-mul-t20
+mul-t20 c = search needs
 
-element-set-from-t-2 : tie.Need-element-set-from-t-2
-element-set-from-t-2 c = search needs
+element-set-from-self-2 : tie.Need-element-set-from-self-2
+element-set-from-self-2 c = search needs
 
-cast-t : tie.Need-cast-t
-cast-t c = search needs
+cast-self : tie.Need-cast-self
+cast-self c = search needs
 
-add-t : tie.Need-add-t
-add-t c = search needs
+add-self : tie.Need-add-self
+add-self c = search needs
 
 returns-2 : tie.Need-returns-2
 unfolding trackerUpdated
@@ -70,16 +70,16 @@ update-spec =
     mul-peer
     element-copy-out-peer
     update-requires
-    mul-t15
-    element-set-from-t
+    mul-t13
+    element-set-from-self
     returns
     new-requires
-    mul-t
-    element-write-t
+    mul-self
+    element-write-self
     update-requires-2
-    mul-t22
-    element-set-from-t-2
-    cast-t
-    add-t
+    mul-t20
+    element-set-from-self-2
+    cast-self
+    add-self
     returns-2
     returns-3)

@@ -4,7 +4,10 @@ use crate::clock;
 use crate::congestion::coalescing::InstanceKey;
 use crate::congestion::config::{CongestionConfig, Priority};
 use crate::congestion::writer_pacer::{EnqueueError, SendAction, WriterPacer};
-use crate::list::{List, Random};
+use crate::measure::{mix, Sides};
+use crate::random::Random;
+
+use super::list::List;
 
 /// The slots of four pacers under the default settings, of 1,472 bytes each.
 const POOL_BYTES: usize = 4 * (100 + 500 + 100) * 1_472;
@@ -47,42 +50,8 @@ impl Bench {
         }
     }
 
-    /// The proved code on the parts of four pacers.
-    pub fn parts(&mut self, list: &List) -> u64 {
-        let (words, pool, bytes) = (&list.words, &mut self.pool, &self.bytes);
-        // Each slice goes as its start and its length; the pool is lent to this call alone.
-        unsafe {
-            bench_parts(
-                words.as_ptr(),
-                words.len(),
-                pool.as_mut_ptr(),
-                pool.len(),
-                bytes.as_ptr(),
-                bytes.len(),
-                list.rate_bps,
-            )
-        }
-    }
-
-    /// The proved code on one pacer by value.
-    pub fn whole(&mut self, list: &List) -> u64 {
-        let (words, pool, bytes) = (&list.words, &mut self.pool, &self.bytes);
-        // As in `parts`.
-        unsafe {
-            bench_whole(
-                words.as_ptr(),
-                words.len(),
-                pool.as_mut_ptr(),
-                pool.len(),
-                bytes.as_ptr(),
-                bytes.len(),
-                list.rate_bps,
-            )
-        }
-    }
-
     /// The Rust on so many pacers: four as `parts`, one as `whole`.
-    pub fn rust(&self, list: &List, count: u64) -> u64 {
+    fn rust_on(&self, list: &List, count: u64) -> u64 {
         clock::set(0);
         let mut pacers: Vec<_> = (0..count)
             .map(|_| WriterPacer::with_rate(CongestionConfig::default(), list.rate_bps))
@@ -102,11 +71,58 @@ impl Bench {
         }
         sum
     }
+}
 
-    /// Panics where the proved code and the Rust do not agree on a list.
-    pub fn assert_agreed(&mut self, list: &List) {
-        assert_eq!(self.parts(list), self.rust(list, 4), "four pacers on parts, and the Rust's");
-        assert_eq!(self.whole(list), self.rust(list, 1), "one pacer by value, and the Rust's");
+impl Sides for Bench {
+    type List = List;
+
+    fn calls(list: &List) -> usize {
+        list.words.len()
+    }
+
+    /// Four pacers.
+    fn parts(&mut self, list: &List) -> u64 {
+        let (words, pool, bytes) = (&list.words, &mut self.pool, &self.bytes);
+        // Each slice goes as its start and its length; the pool is lent to this call alone.
+        unsafe {
+            bench_parts(
+                words.as_ptr(),
+                words.len(),
+                pool.as_mut_ptr(),
+                pool.len(),
+                bytes.as_ptr(),
+                bytes.len(),
+                list.rate_bps,
+            )
+        }
+    }
+
+    /// One pacer.
+    fn whole(&mut self, list: &List) -> Option<u64> {
+        let (words, pool, bytes) = (&list.words, &mut self.pool, &self.bytes);
+        // As in `parts`.
+        let sum = unsafe {
+            bench_whole(
+                words.as_ptr(),
+                words.len(),
+                pool.as_mut_ptr(),
+                pool.len(),
+                bytes.as_ptr(),
+                bytes.len(),
+                list.rate_bps,
+            )
+        };
+        Some(sum)
+    }
+
+    /// Four pacers, as `parts`.
+    fn rust(&mut self, list: &List) -> u64 {
+        self.rust_on(list, 4)
+    }
+
+    fn assert_agreed(&mut self, list: &List) {
+        assert_eq!(self.parts(list), self.rust_on(list, 4), "four pacers on parts, and the Rust's");
+        assert_eq!(self.whole(list), Some(self.rust_on(list, 1)), "one pacer by value, and the Rust's");
     }
 }
 
@@ -124,10 +140,6 @@ fn handed(pacer: &mut WriterPacer, word: u64, sample: &[u8]) -> u64 {
         Err(EnqueueError::Disabled) => 13,
         Err(EnqueueError::Timeout) => u64::MAX,
     }
-}
-
-fn mix(sum: u64, x: u64) -> u64 {
-    sum.rotate_left(7) ^ x
 }
 
 fn mix_action(sum: u64, action: SendAction) -> u64 {

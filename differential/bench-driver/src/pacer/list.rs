@@ -1,5 +1,7 @@
 //! Lists of calls, each packed into a word as crates/bench/src/call.rt reads it.
 
+use crate::random::Random;
+
 /// The calls of a timed list.
 const CALLS: u64 = 20_000;
 /// A rate that never makes a record of a timed list wait.
@@ -86,21 +88,4 @@ pub fn random(random: &mut Random, calls: usize) -> List {
         .collect();
     let rate_bps = 10u32.pow(3 + random.below(7) as u32);
     List { words, rate_bps }
-}
-
-/// A small generator of random numbers (splitmix64).
-pub struct Random(u64);
-
-impl Random {
-    pub fn new(seed: u64) -> Self {
-        Self(seed)
-    }
-
-    pub fn below(&mut self, bound: u64) -> u64 {
-        self.0 = self.0.wrapping_add(0x9e37_79b9_7f4a_7c15);
-        let mut x = self.0;
-        x = (x ^ x >> 30).wrapping_mul(0xbf58_476d_1ce4_e5b9);
-        x = (x ^ x >> 27).wrapping_mul(0x94d0_49bb_1331_11eb);
-        (x ^ x >> 31) % bound
-    }
 }

@@ -1,0 +1,24 @@
+-- `run` is safe and ends: the measure is the number of calls that are left.
+use borrow.Author.Needs.{needs}
+use lib.ListN.{length}
+use Prim.Native.Nat.{_≤_, _-_}
+use Rattle.bench_control.proofs.parts.run.Statement.{statement}
+use Rattle.bench_control.proofs.parts.run.Tie as tie
+
+abbrev Inv-loop : tie.InvT-loop
+Inv-loop list other config core₀ tracker₀ allocator₀ time₀ sum₀ k₀ core tracker allocator time sum k = k ≤ length list
+
+abbrev μ-loop : tie.MeasureT-loop
+μ-loop list other config core₀ tracker₀ allocator₀ time₀ sum₀ k₀ core tracker allocator time sum k = length list - k
+
+add-k : tie.Need-add-k Inv-loop μ-loop
+add-k c = search (needs, c .before .before .before .before .loop-test .taken, c .before .before .before .before .before .before .before .before .before .before .before .before .good)
+
+pub run-spec : {M : Type 1} → statement M
+run-spec = tie.close (tie.spec Inv-loop μ-loop
+    (λ c κs. tt) (λ c κs. tt) (λ c κs. tt) (λ c κs. tt) (λ c κs. tt) (λ c. search needs) (λ c. search needs)
+    (λ c. search needs) (λ c κs. tt) (λ c κs. tt) (λ c κs. tt) (λ c κs. tt) (λ c κs. tt) (λ c κs. tt) (λ c κs. tt)
+    (λ c κs. tt) (λ c κs. tt) (λ c κs. tt) (λ c κs. tt) (λ c κs. tt) (λ c κs. tt) (λ c κs. tt) (λ c κs. tt)
+    (λ c κs. tt) (λ c κs. tt) (λ c κs. tt) (λ c κs. tt) (λ c κs. tt) (λ c κs. tt) (λ c κs. tt) (λ c. search needs)
+    (λ c κs. tt) (λ c κs. tt) (λ c κs. tt) (λ c κs. tt) (λ c. search needs) (λ c κs. tt) (λ c κs. tt) (λ c κs. tt)
+    (λ c κs. tt) add-k (λ c. search needs) (λ c. search needs) (λ c. search needs))
