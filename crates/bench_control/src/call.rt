@@ -7,9 +7,8 @@ use control::budget_allocator::WriterInfo;
 use control::budget_allocator::WriterTable;
 use control::controller::ControllerCore;
 use numeric::float::bits_of_f32;
-use signals::rtt_estimator::RttEstimator;
 
-// The kinds of calls on a controller; every other is NACKs.
+// The kinds of calls; every other is NACKs.
 pub const TICK: u64 = 0;
 
 pub const SET_RATE: u64 = 1;
@@ -23,9 +22,6 @@ pub const REGISTER: u64 = 4;
 pub const EAGAIN: u64 = 5;
 
 pub const SHOW: u64 = 6;
-
-// A kind of call on single parts, as TOS is; every other is a decrease of a rate.
-pub const ESTIMATE: u64 = 7;
 
 // A word has, from its low bits on: 4 bits for the kind, 6 for the writer or the peer, 30 for the amount and 24 for the
 // time by which the call is later than the one before it, in units of 16 nanoseconds.
@@ -122,20 +118,19 @@ pub fn mix_u32(sum: u64, x: u32) -> u64 {
     mix(sum, wide(x))
 }
 
-// The checksum with a signal more.
-pub fn mix_signal(sum: u64, signal: bool) -> u64 {
-    if signal { mix(sum, 1) } else { mix(sum, 0) }
+// The checksum with a float more.
+pub fn mix_f32(sum: u64, x: f32) -> u64 {
+    mix_u32(sum, bits_of_f32(x))
 }
 
-// The checksum with an average more.
-pub fn mix_average(sum: u64, estimator: RttEstimator) -> u64 {
-    mix_u32(sum, bits_of_f32(estimator.rtt()))
+// The checksum with a flag more, such as a signal.
+pub fn mix_flag(sum: u64, flag: bool) -> u64 {
+    if flag { mix(sum, 1) } else { mix(sum, 0) }
 }
 
 // The checksum with the rate and the score that a tick left.
-pub fn mix_core(sum: u64, core: ControllerCore) -> u64 {
-    let score = core.scorer().score();
-    mix_u32(mix_u32(sum, core.rate()), bits_of_f32(score))
+pub fn mix_tick(sum: u64, core: ControllerCore) -> u64 {
+    mix_f32(mix_u32(sum, core.rate()), core.scorer().score())
 }
 
 // The checksum with a writer's update more.

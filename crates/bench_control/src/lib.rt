@@ -1,5 +1,6 @@
 // The benchmark's lists of calls of congestion control on its parts: a static library of its own, as bench_parts is.
 pub mod call;
+pub mod left;
 pub mod parts;
 pub mod single;
 
@@ -9,8 +10,8 @@ pub extern "C" fn bench_control_parts(list: &[u64], other: bool) -> u64 {
     parts::run(list, other)
 }
 
-// The checksum of a list on one estimator, one processor and decreases of a rate.
+// The checksum of a list on an estimator, a processor or decreases of a rate, by the part's number.
 #[no_mangle]
-pub extern "C" fn bench_control_single(list: &[u64]) -> u64 {
-    single::run(list)
+pub extern "C" fn bench_control_single(list: &[u64], part: u8) -> u64 {
+    single::run(list, part)
 }

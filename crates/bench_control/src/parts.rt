@@ -1,5 +1,6 @@
 // A list of calls on the parts of a controller: core, tracker and allocator are locals.
 use crate::call;
+use crate::left;
 use control::budget_allocator::BudgetAllocator;
 use control::controller::ControllerConfig;
 use control::controller::ControllerCore;
@@ -42,7 +43,7 @@ pub fn run(list: &[u64], other: bool) -> u64 {
                 allocator = allocator.reallocate(config.allocation, core.rate());
                 sum = call::mix_updates(sum, allocator.table());
             }
-            sum = call::mix_core(sum, core);
+            sum = call::mix_tick(sum, core);
         } else if call::kind_of(word) == call::SET_RATE {
             core = core.set_rate(config, time, call::amount_of(word));
             allocator = allocator.reallocate(config.allocation, call::amount_of(word));
@@ -50,15 +51,15 @@ pub fn run(list: &[u64], other: bool) -> u64 {
         } else if call::kind_of(word) == call::SAMPLE {
             tracker = tracker.update(time, call::number_of(word), call::sample_of(word));
         } else if call::kind_of(word) == call::SHOW {
-            sum = call::mix_average(sum, tracker.estimator_at(call::number_of(word) as usize));
+            sum = left::mix_estimator(sum, tracker.estimator_at(call::number_of(word) as usize));
         } else if call::kind_of(word) == call::REGISTER {
             allocator = allocator.register(call::number_of(word) as u64, call::class_of(word));
         } else {
             let marked = signalled(core, config, word);
             core = marked.core;
-            sum = call::mix_signal(sum, marked.signal);
+            sum = call::mix_flag(sum, marked.signal);
         }
         k += 1;
     }
-    sum
+    left::mix_core(left::mix_allocator(sum, allocator), core)
 }

@@ -1,5 +1,6 @@
 // The same list of calls on one controller through its public calls, which take it by value and give it back.
 use bench_control::call;
+use bench_control::left;
 use control::controller::CongestionController;
 use control::controller::CongestionControllerAlone;
 use control::controller::ControllerAnswer;
@@ -47,7 +48,7 @@ fn mix_told(sum: u64, told: bool, controller: CongestionController) -> u64 {
 fn mix_left(sum: u64, word: u64, told: bool, controller: CongestionController) -> u64 {
     let kind = call::kind_of(word);
     if kind == call::TICK {
-        return call::mix_core(mix_told(sum, told, controller), controller.core());
+        return call::mix_tick(mix_told(sum, told, controller), controller.core());
     }
     if kind == call::SET_RATE {
         return mix_told(sum, told, controller);
@@ -60,9 +61,9 @@ fn mix_left(sum: u64, word: u64, told: bool, controller: CongestionController) -
     }
     if kind == call::SHOW {
         let place = call::number_of(word) as usize;
-        return call::mix_average(sum, controller.tracker().estimator_at(place));
+        return left::mix_estimator(sum, controller.tracker().estimator_at(place));
     }
-    call::mix_signal(sum, told)
+    call::mix_flag(sum, told)
 }
 
 // The checksum of a list of calls on a new controller.
@@ -80,5 +81,9 @@ pub fn run(list: &[u64], other: bool) -> u64 {
         sum = mix_left(sum, word, left.told, alone.controller());
         k += 1;
     }
-    sum
+    let controller = alone.controller();
+    left::mix_core(
+        left::mix_allocator(sum, controller.allocator()),
+        controller.core(),
+    )
 }

@@ -1,5 +1,6 @@
 //! Congestion control: its workloads in the order of the table.
 
+mod left;
 mod list;
 mod side;
 
@@ -7,7 +8,7 @@ pub use list::random;
 pub use side::Bench;
 
 use crate::measure::Row;
-use list::{List, Part};
+use list::{List, Part, Single};
 
 pub fn rows() -> Vec<Row<List>> {
     vec![
@@ -21,7 +22,7 @@ pub fn rows() -> Vec<Row<List>> {
         Row::new("on_rtt_sample, 4 peers", list::samples(4)),
         Row::new("on_rtt_sample, 64 peers", list::samples(64)),
         Row::new("on_ecn_tos", list::packets(Part::Controller { other: false })),
-        Row::new("process_tos, one processor", list::packets(Part::Single)),
+        Row::new("process_tos, one processor", list::packets(Part::Single(Single::Processor))),
         Row::new("decrease", list::decreases()),
     ]
 }

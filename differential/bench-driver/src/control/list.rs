@@ -13,7 +13,7 @@ const STEP: u64 = 1_600;
 const LEAST_RATE: u64 = 10_000;
 const STEPS_TO_LARGEST: u64 = 2_000;
 
-/// The kinds of calls.
+/// The kinds of calls; a list on a single part has no use for them.
 pub const TICK: u64 = 0;
 pub const SET_RATE: u64 = 1;
 pub const SAMPLE: u64 = 2;
@@ -21,9 +21,7 @@ pub const TOS: u64 = 3;
 pub const REGISTER: u64 = 4;
 pub const EAGAIN: u64 = 5;
 pub const SHOW: u64 = 6;
-pub const ESTIMATE: u64 = 7;
-pub const NACKS: u64 = 8;
-pub const DECREASE: u64 = 9;
+pub const NACKS: u64 = 7;
 
 /// Calls, and what they are made on.
 pub struct List {
@@ -35,8 +33,15 @@ pub struct List {
 pub enum Part {
     /// A controller with the default settings, or with others.
     Controller { other: bool },
-    /// One estimator, one processor and decreases of a rate.
-    Single,
+    Single(Single),
+}
+
+/// A part alone, by the number that bench_control knows it by.
+#[derive(Clone, Copy)]
+pub enum Single {
+    Estimator = 0,
+    Processor = 1,
+    Decreases = 2,
 }
 
 /// The nanoseconds are a multiple of 16.
@@ -59,6 +64,11 @@ fn tick_after(later: u64) -> u64 {
 /// A sample in sixteenths of a millisecond.
 fn sample(peer: u64, sixteenths: u64) -> u64 {
     call(SAMPLE, peer, sixteenths, STEP)
+}
+
+/// A rate, and a factor in 64ths.
+fn decrease(factor: u64, rate: u64) -> u64 {
+    call(0, factor, rate, STEP)
 }
 
 /// So many peers, each with a first sample of 50 ms; a peer's place is its number.
@@ -117,8 +127,8 @@ pub fn samples(peers: u64) -> List {
 /// Samples of 20 to 80 ms.
 pub fn estimates() -> List {
     let mut random = Random::new(1);
-    let words = (0..CALLS).map(|_| call(ESTIMATE, 0, 320 + random.below(960), STEP)).collect();
-    List { words, on: Part::Single }
+    let words = (0..CALLS).map(|_| sample(0, 320 + random.below(960))).collect();
+    List { words, on: Part::Single(Single::Estimator) }
 }
 
 /// TOS bytes: of a hundred one is marked, two are of no ECN, the others ECT(0).
@@ -137,31 +147,37 @@ pub fn packets(on: Part) -> List {
 pub fn decreases() -> List {
     let mut random = Random::new(3);
     let words = (0..CALLS)
-        .map(|_| call(DECREASE, 32 + random.below(32), random.below(100_000_000), STEP))
+        .map(|_| decrease(32 + random.below(32), random.below(100_000_000)))
         .collect();
-    List { words, on: Part::Single }
+    List { words, on: Part::Single(Single::Decreases) }
 }
 
-/// Calls of any kind, of a controller or of the single parts.
+/// Calls of any kind of a controller, or of a single part.
 pub fn random(random: &mut Random, calls: usize) -> List {
-    if random.below(4) == 0 {
-        let words = (0..calls).map(|_| single_call(random)).collect();
-        return List { words, on: Part::Single };
+    match random.below(8) {
+        0 => random_single(random, calls, Single::Estimator),
+        1 => random_single(random, calls, Single::Processor),
+        2 => random_single(random, calls, Single::Decreases),
+        draw => random_controller(random, calls, draw % 2 == 0),
     }
+}
+
+fn random_single(random: &mut Random, calls: usize, part: Single) -> List {
+    let mut word = || match part {
+        Single::Estimator => sample(0, random.below(65_536)),
+        Single::Processor => call(TOS, 0, random.below(256), STEP),
+        Single::Decreases => decrease(random.below(64), random.below(1_000_000_001)),
+    };
+    let words = (0..calls).map(|_| word()).collect();
+    List { words, on: Part::Single(part) }
+}
+
+fn random_controller(random: &mut Random, calls: usize, other: bool) -> List {
     let mix = Mix::new(random);
     let mut words: Vec<_> = registered(mix.writers).chain(entered(mix.peers)).collect();
     words.extend((0..calls).map(|_| mix.call(random)));
     words.extend(shown(mix.peers));
-    let other = random.below(2) == 0;
     List { words, on: Part::Controller { other } }
-}
-
-fn single_call(random: &mut Random) -> u64 {
-    match random.below(3) {
-        0 => call(ESTIMATE, 0, random.below(65_536), STEP),
-        1 => call(TOS, 0, random.below(256), STEP),
-        _ => call(DECREASE, random.below(64), random.below(1_000_000_001), STEP),
-    }
 }
 
 /// What the random calls of one controller are drawn from.

@@ -10,11 +10,12 @@ use crate::congestion::rtt_estimator::RttEstimator;
 use crate::congestion::scorer::CongestionAction;
 use crate::measure::{mix, Sides};
 
+use super::left::{self, bits};
 use super::list::*;
 
 extern "C" {
     fn bench_control_parts(list: *const u64, calls: usize, other: bool) -> u64;
-    fn bench_control_single(list: *const u64, calls: usize) -> u64;
+    fn bench_control_single(list: *const u64, calls: usize, part: u8) -> u64;
     fn bench_control_whole(list: *const u64, calls: usize, other: bool) -> u64;
 }
 
@@ -33,7 +34,7 @@ impl Sides for Bench {
         unsafe {
             match list.on {
                 Part::Controller { other } => bench_control_parts(words, calls, other),
-                Part::Single => bench_control_single(words, calls),
+                Part::Single(part) => bench_control_single(words, calls, part as u8),
             }
         }
     }
@@ -43,14 +44,16 @@ impl Sides for Bench {
         match list.on {
             // As in `parts`.
             Part::Controller { other } => Some(unsafe { bench_control_whole(words, calls, other) }),
-            Part::Single => None,
+            Part::Single(_) => None,
         }
     }
 
     fn rust(&mut self, list: &List) -> u64 {
         match list.on {
             Part::Controller { other } => controller(&list.words, other),
-            Part::Single => single(&list.words),
+            Part::Single(Single::Estimator) => samples(&list.words),
+            Part::Single(Single::Processor) => packets(&list.words),
+            Part::Single(Single::Decreases) => decreases(&list.words),
         }
     }
 
@@ -80,12 +83,12 @@ fn controller(words: &[u64], other: bool) -> u64 {
             }
             SET_RATE => sum = mix_updates(sum, &controller.set_rate(amount(word))),
             SAMPLE => controller.on_rtt_sample(number(word), sample(word)),
-            SHOW => sum = mix(sum, average(&controller, number(word))),
+            SHOW => sum = left::mix_estimator(sum, peer(&controller, number(word))),
             REGISTER => controller.register_writer(number(word).into(), class(word)),
             kind => sum = mix(sum, signalled(&mut controller, kind, word).into()),
         }
     }
-    sum
+    left::mix_controller(sum, &controller)
 }
 
 /// The defaults, or other settings, with marks looked at.
@@ -128,30 +131,37 @@ fn signalled(controller: &mut CongestionController, kind: u64, word: u64) -> boo
     false
 }
 
-/// The Rust's estimator and processor, and the rate after a decrease, which only a rate controller tells.
-fn single(words: &[u64]) -> u64 {
+/// The Rust's estimator.
+fn samples(words: &[u64]) -> u64 {
     clock::set(0);
     let mut estimator = RttEstimator::new(100.0);
-    let mut processor = EcnProcessor::default();
     let (mut time, mut sum) = (0, 0);
     for &word in words {
         time += later(word);
         clock::set(time);
-        sum = match word % 16 {
-            ESTIMATE => {
-                estimator.update(sample(word));
-                mix(sum, bits(estimator.rtt()))
-            }
-            TOS => mix(sum, processor.process_tos(amount(word) as u8).into()),
-            _ => mix(sum, decreased(amount(word), number(word) as f32 * 0.015625).into()),
-        };
+        estimator.update(sample(word));
+        sum = mix(sum, bits(estimator.rtt()));
     }
-    sum
+    left::mix_estimator(sum, &estimator)
 }
 
-fn decreased(rate: u32, factor: f32) -> u32 {
-    RateController::with_params(rate, 10_000, 1_000_000_000, 50_000, factor, factor)
-        .preview_action(CongestionAction::DecreaseHard)
+/// The Rust's processor.
+fn packets(words: &[u64]) -> u64 {
+    let mut processor = EcnProcessor::default();
+    let sum = words.iter().fold(0, |sum, &word| {
+        let signal = processor.process_tos(amount(word) as u8);
+        mix(sum, signal.into())
+    });
+    left::mix_processor(sum, &processor)
+}
+
+/// The rate after a decrease, which the Rust's rate controller tells.
+fn decreases(words: &[u64]) -> u64 {
+    words.iter().fold(0, |sum, &word| {
+        let (rate, factor) = (amount(word), number(word) as f32 * 0.015625);
+        let controller = RateController::with_params(rate, 10_000, 1_000_000_000, 50_000, factor, factor);
+        mix(sum, controller.preview_action(CongestionAction::DecreaseHard).into())
+    })
 }
 
 fn number(word: u64) -> u32 {
@@ -178,13 +188,8 @@ fn later(word: u64) -> u64 {
     word / 1_099_511_627_776 * 16
 }
 
-fn bits(x: f32) -> u64 {
-    x.to_bits().into()
-}
-
-fn average(controller: &CongestionController, peer: u32) -> u64 {
-    let estimator = controller.rtt_tracker().get(peer).expect("a peer that was entered");
-    bits(estimator.rtt())
+fn peer(controller: &CongestionController, id: u32) -> &RttEstimator {
+    controller.rtt_tracker().get(id).expect("a peer that was entered")
 }
 
 fn mix_updates(sum: u64, updates: &[WriterBudgetUpdate]) -> u64 {

@@ -1,12 +1,7 @@
-use borrow.Author.Needs.{needs}
 use Prim.Native.Nat.{_≤_, _-_}
+use borrow.Author.Needs.{needs}
 use Rattle.bench_control.proofs.call.mix_updates.Statement.{statement}
 use Rattle.bench_control.proofs.call.mix_updates.Tie as tie
-use Rattle.bench_control.proofs.call.mix_updates.Reads as reads
-use Rattle.bench_control.proofs.call.mix_updates.Lts as lts
-use Rattle.bench_control.proofs.call.mix_update.Reads as mix-update-reads
-use Rattle.control.proofs.budget_allocator.WriterTable.count.Reads as count-reads
-use Rattle.control.proofs.budget_allocator.WriterTable.rows.Reads as rows-reads
 
 abbrev Inv-loop : tie.InvT-loop
 Inv-loop sum n rows total₀ k₀ total k = k ≤ n

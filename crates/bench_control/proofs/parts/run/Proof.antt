@@ -1,7 +1,7 @@
 -- `run` is safe and ends: the measure is the number of calls that are left.
+use Prim.Native.Nat.{_≤_, _-_}
 use borrow.Author.Needs.{needs}
 use lib.ListN.{length}
-use Prim.Native.Nat.{_≤_, _-_}
 use Rattle.bench_control.proofs.parts.run.Statement.{statement}
 use Rattle.bench_control.proofs.parts.run.Tie as tie
 
@@ -21,4 +21,4 @@ run-spec = tie.close (tie.spec Inv-loop μ-loop
     (λ c κs. tt) (λ c κs. tt) (λ c κs. tt) (λ c κs. tt) (λ c κs. tt) (λ c κs. tt) (λ c κs. tt) (λ c κs. tt)
     (λ c κs. tt) (λ c κs. tt) (λ c κs. tt) (λ c κs. tt) (λ c κs. tt) (λ c κs. tt) (λ c κs. tt) (λ c. search needs)
     (λ c κs. tt) (λ c κs. tt) (λ c κs. tt) (λ c κs. tt) (λ c. search needs) (λ c κs. tt) (λ c κs. tt) (λ c κs. tt)
-    (λ c κs. tt) add-k (λ c. search needs) (λ c. search needs) (λ c. search needs))
+    (λ c κs. tt) add-k (λ c. search needs) (λ c. search needs) (λ c κs. tt) (λ c κs. tt) (λ c. search needs))

@@ -17,4 +17,5 @@ add-k c = search (needs, c .before .before .before .before .before .before .loop
 pub run-spec : {M : Type 1} → statement M
 run-spec = tie.close (tie.spec Inv-loop μ-loop
     (λ c κs. tt) (λ c κs. tt) (λ c. search needs) (λ c. search needs) (λ c. search needs) (λ c κs. tt) (λ c κs. tt)
-    (λ c κs. tt) (λ c κs. tt) add-k (λ c. search needs) (λ c. search needs) (λ c. search needs))
+    (λ c κs. tt) (λ c κs. tt) add-k (λ c. search needs) (λ c. search needs) (λ c κs. tt) (λ c κs. tt) (λ c κs. tt)
+    (λ c κs. tt) (λ c κs. tt) (λ c. search needs))
