@@ -1,7 +1,7 @@
 // Shares of the rate: a table of up to 64 writers by class and then by id, and what each gets of a rate.
 ghost use mathlib.Core.Path.{_≡_};
 ghost use Rattle.config.specs.Refusal.{answerOf};
-ghost use Rattle.control.specs.BudgetAllocator.{allocationConfigOf, noAllocationConfig, blankWriter, newWriter, comesBefore, takenOf, placeOf, placeFor, withRow, withoutRow, newTable, writersOf, entered, isKnown, without, fullFor, writerAt, noWeights, weighed, weightsFrom, weightIn, budgetIn, shareOf, reserveOf, splitOf, urgentPart, leftFrom, sharesOf, budgetFor, withBudget, allottedTable, distributedFrom, noStats, registeredStats, unregisteredStats, reallocatedStats, newAllocator, one, registered, unregistered, reallocated};
+ghost use Rattle.control.specs.BudgetAllocator.{allocationConfigOf, noAllocationConfig, blankWriter, newWriter, comesBefore, takenOf, placeOf, placeFor, withRow, withoutRow, newTable, writersOf, entered, isKnown, without, fullFor, writerAt, noWeights, weighed, weightsFrom, weightIn, budgetIn, shareOf, reserveOf, splitOf, urgentPart, leftFrom, sharesOf, budgetFor, withBudget, allottedTable, distributedFrom, newAllocator, one, registered, unregistered, reallocated};
 ghost use Rattle.control.specs.BudgetAllocatorAlone.{weightOut, registerChecks, weightChecks, allotChecks, zeroAlone, madeAlone, resumedAlone, leftBy, registeredAlone, weightedAlone, unregisteredAlone, reallocatedAlone};
 use config::config::CongestionConfig;
 use config::config::Priority;

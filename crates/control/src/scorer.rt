@@ -1,6 +1,5 @@
 // The congestion score: a decaying sum of the signals, and a state with hysteresis that asks for decreases and increases.
 ghost use mathlib.Core.Path.{_≡_};
-ghost use Rattle.config.specs.Refusal.{answerOf};
 ghost use Rattle.control.specs.Scorer.{stateNumber, actionNumber, scorerConfigOf, noScorerConfig, noPending, lossImpulse, addedIf, impulseOf, tickMeasured, congestionMeasured, recoveryMeasured, congestedFor, newScorer, onEagain, onRttInflated, onNack, onLoss, inCooldown, canIncrease, congestedAt, evaluatedStable, evaluatedCongested, evaluated, ticked};
 ghost use Rattle.control.specs.ScorerAlone.{zeroAlone, madeAlone, resumedAlone, notedBy, eagainAlone, inflatedAlone, nackAlone, lossAlone, tickedAlone};
 use config::config::CongestionConfig;

@@ -1,7 +1,5 @@
 // Round-trip times: an average, its variance and the least sample, for one peer and for up to 64.
 ghost use mathlib.Core.Path.{_≡_};
-ghost use Prim.Native.Nat.{min};
-ghost use lib.ListN.{length};
 ghost use Rattle.config.specs.Refusal.{answerOf};
 ghost use Rattle.signals.specs.RttEstimator.{lesserOf, newEstimator, updated, inflated, rtoOf, placeOf, knownOf, newTracker, trackerUpdated, fullFor, anyInflated, idAt, shownAt};
 ghost use Rattle.signals.specs.RttEstimatorAlone.{sampleOut, sampleChecks, peerChecks, newAlone, resumedAlone, updatedAlone, newTrackerAlone, resumedTracker, trackerUpdatedAlone};
