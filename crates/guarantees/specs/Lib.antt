@@ -1,1 +1,4 @@
 pub mod Examples
+pub mod Calls
+pub mod Book
+pub mod Theorem
