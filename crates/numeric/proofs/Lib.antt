@@ -8,3 +8,9 @@ pub mod Closest
 pub mod Nanoseconds
 pub mod Search
 pub mod Choice
+pub mod Halves
+pub mod Errors
+pub mod Roundings
+pub mod Fractions
+pub mod Units
+pub mod Seconds

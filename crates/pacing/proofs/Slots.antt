@@ -205,6 +205,16 @@ look-other l i c s e j d t h k ne = look-off l (queueAt i c) c s e (queueAt j d)
 
 -- ---- counts
 
+-- an entry touches no count
+pub count-entered :
+    (l : List ℕ) (i : ℕ) (c : Priority) (s : ℕ) (e : Entry) (j k : ℕ) → s < mostOf c → k < 13
+    → getD (entered l (queueAt i c) c s e) (countAt j k) 0 ≡ getD l (countAt j k) 0
+count-entered l i c s e j k h b = entered-off l (queueAt i c) c s e (countAt j k) (go (decLe (suc j) i))
+  where
+    go : Dec (j < i) → (countAt j k < entryAt (queueAt i c) c s) ⊎ (entryAt (queueAt i c) c s + width c ≤ countAt j k)
+    go (yes r) = inl (omega (arith, inside i c s h .0, within i c .0))
+    go (no r) = inr (omega (arith, inside i c s h .1, within i c .1))
+
 -- words that differ in the counts of pacer i alone
 pub record Noted (i : ℕ) (l m : List ℕ) : Type 0 where
   pub same-length : length m ≡ length l
@@ -251,7 +261,7 @@ noted-class i l P0 kept n = noted-none i l
 noted-class i l P1 kept n = noted-dropped i l (kept .fate)
 noted-class i l P2 kept n = noted-by i l _ (kept .fate) n
 
-class-below : (c : Priority) → classNumber c ≤ 2
+pub class-below : (c : Priority) → classNumber c ≤ 2
 class-below P0 = omega arith
 class-below P1 = omega arith
 class-below P2 = omega arith

@@ -1,5 +1,6 @@
 pub mod Coalescing
 pub mod CoalescingQueueAlone
+pub mod Counts
 pub mod Entries
 pub mod Pool
 pub mod Ring

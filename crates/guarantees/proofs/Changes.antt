@@ -1,0 +1,204 @@
+-- What a call does to a station, in six cases: it is turned down, steers the controller alone, gives new budgets, registers a writer,
+-- hands in a record, or attempts to send one. Assumes nothing.
+use Prim.Native.Nat.{ℕ, _+_, _*_, _^_, _≤_, _<_}
+use mathlib.Core.Bool.{Bool, true, false, cond, true≢false}
+use mathlib.Core.List.{List, [], _∷_}
+use mathlib.Core.Logic.{_≢_}
+use mathlib.Core.Path.{_≡_, refl, sym, ap, subst, _∙_}
+use native.Mathlib.Omega.{arith}
+use borrow.Author.Tests.{eqb-true, eqb-false, ltb-true, ltb-false, leb-true, leb-false}
+use lib.Dec.{ltb, leb, eqb}
+use lib.Ieee.{Float}
+use lib.ListN.{length}
+use Rattle.config.proofs.Refusals.{NoneOf, none-where-accepted, answer-applies}
+use Rattle.config.specs.Ledger.{timedChecks, rateChecks}
+use Rattle.config.specs.Refusal.{Check, when, applies, order, answerOf}
+use Rattle.config.specs.declared.config.Priority.{Priority}
+use Rattle.numeric.proofs.Choice.{by-test}
+use Rattle.pacing.specs.Pool.{bytesOf, isShort}
+use Rattle.pacing.specs.WriterPacer.{actionNumber}
+use Rattle.pacing.specs.declared.coalescing.InstanceKey.{InstanceKey}
+use Rattle.pacing.specs.declared.writer_pacer.SendAction.{SendAction}
+use Rattle.pacing.specs.declared.writer_pacer.SendAction.the-variants.{Send, Empty, RateLimited}
+use Rattle.control.specs.Controller.{controllerTicked, controllerSet}
+use Rattle.control.specs.declared.controller.CongestionController.{CongestionController}
+use Rattle.control.specs.declared.controller.ControllerTicked.{ControllerTicked}
+use Rattle.station.specs.Station.{turnedDown, leftBy, answerWith, registerChecks, registerLeaves, registeredStation, steered, eagainStation, nacksStation, tosStation, rttChecks, rttStation, allotted, tickLeaves, tickedStation, ratedStation, limitsIn, slotsNeeded, handInChecks, enqueuedIn, handInLeaves, handedStation, sendChecks, attemptIn, sendLeaves, sentStation}
+use Rattle.station.specs.declared.station.Station.{Station}
+use Rattle.station.specs.declared.station.StationAnswer.{StationAnswer}
+use Rattle.station.specs.declared.station.StationSent.{StationSent}
+use Rattle.guarantees.specs.Book.{Book, Sent, none, sentIn, noted}
+use Rattle.guarantees.specs.Calls.{Lent, owed, Call, register, eagain, tos, nacks, rtt, tick, handIn, send, setRate, Reply, nothing, signal, unchanged, updates, action, Outcome, outcomeOf, plain, signals, allots, attempts, rowsOf, lentLength, lentIn, outcome, written, State, answered}
+use Rattle.guarantees.specs.Theorem.{Sends, isUpdates, sets, paidBy}
+use Rattle.pacing.specs.declared.pool.Limits.{Limits}
+
+-- ---- calls and replies that concern no record
+
+-- a call that the book and the pool do not notice
+pub record Quiet (x : Call) : Type 0 where
+  pub book : (m : Limits) (b : Book) (answer : ℕ) (s : Sent) → noted m b x answer s ≡ b
+  pub pool : (s : Station) (n : ℕ) (p : List ℕ) → written s n x p ≡ p
+  pub lent : lentIn x ≡ owed
+  pub pays : (i : ℕ) (s : State) → paidBy i s x ≡ 0
+
+quiet-eagain : (time : ℕ) → Quiet (eagain time)
+unfolding noted written paidBy
+quiet-eagain time = record { book = λ m b a s. refl; pool = λ s n p. refl; lent = refl; pays = λ i s. refl }
+
+quiet-tos : (time byte : ℕ) → Quiet (tos time byte)
+unfolding noted written paidBy
+quiet-tos time byte = record { book = λ m b a s. refl; pool = λ s n p. refl; lent = refl; pays = λ i s. refl }
+
+quiet-nacks : (time count : ℕ) → Quiet (nacks time count)
+unfolding noted written paidBy
+quiet-nacks time count = record { book = λ m b a s. refl; pool = λ s n p. refl; lent = refl; pays = λ i s. refl }
+
+quiet-rtt : (time peer : ℕ) (sample : Float) → Quiet (rtt time peer sample)
+unfolding noted written paidBy
+quiet-rtt time peer sample = record { book = λ m b a s. refl; pool = λ s n p. refl; lent = refl; pays = λ i s. refl }
+
+quiet-tick : (time : ℕ) → Quiet (tick time)
+unfolding noted written paidBy
+quiet-tick time = record { book = λ m b a s. refl; pool = λ s n p. refl; lent = refl; pays = λ i s. refl }
+
+quiet-rate : (time rate : ℕ) → Quiet (setRate time rate)
+unfolding noted written paidBy
+quiet-rate time rate = record { book = λ m b a s. refl; pool = λ s n p. refl; lent = refl; pays = λ i s. refl }
+
+-- a reply that tells of no record and of no budgets
+pub record Silent (r : Reply) : Type 0 where
+  pub sends-none : sentIn r ≡ none
+  pub no-updates : isUpdates r ≡ false
+
+-- ---- what an accepted call has passed
+
+pub record Timed (s : Station) (time : ℕ) : Type 0 where
+  pub latest : time ≤ 2 ^ 62
+  pub room : s .ledger .calls < 2 ^ 40
+  pub ahead : s .ledger .last ≤ time
+
+timed : (s : Station) (time : ℕ) → ltb (2 ^ 62) time ≡ false → leb (2 ^ 40) (s .ledger .calls) ≡ false → ltb time (s .ledger .last) ≡ false → Timed s time
+timed s time a b c = record { latest = ltb-false _ _ a; room = leb-false _ _ b; ahead = ltb-false _ _ c }
+
+-- 7, 17 and 11 stand at the seventh, ninth and tenth place of the order
+timed-by :
+    (s : Station) (time : ℕ) (checks : List Check) → applies checks 7 ≡ ltb (2 ^ 62) time → applies checks 17 ≡ leb (2 ^ 40) (s .ledger .calls)
+    → applies checks 11 ≡ ltb time (s .ledger .last) → NoneOf order checks → Timed s time
+timed-by s time checks a b c n =
+    timed s time (sym a ∙ n .1 .1 .1 .1 .1 .1 .0) (sym b ∙ n .1 .1 .1 .1 .1 .1 .1 .1 .0) (sym c ∙ n .1 .1 .1 .1 .1 .1 .1 .1 .1 .0)
+
+-- 12 is no check's answer
+not-full : (checks : List Check) → applies checks 12 ≡ false → answerOf checks ≢ 12
+not-full checks h e =
+    true≢false
+    (sym (answer-applies checks (λ (z : answerOf checks ≡ 0). zero-twelve (sym z ∙ e))) ∙ ap (applies checks) e ∙ h)
+  where
+    zero-twelve : _≡_ {A = ℕ} 0 12 → ⊥
+    zero-twelve q = omega arith
+
+-- ---- the cases; n is the length of the pool that the last call left
+
+pub record Cases (s : Station) (n : ℕ) (P : Call → Outcome → Type 0) : Type 0 where
+  pub turned-down : (x : Call) (answer : ℕ) → answer ≢ 0 → answer ≢ 12 → P x (outcomeOf answer nothing s)
+  pub steers : (x : Call) (time : ℕ) (reply : Reply) (c : CongestionController) → Quiet x → Silent reply → Timed s time → P x (outcomeOf 0 reply (steered s time c))
+  pub allots : (x : Call) (time : ℕ) (c : CongestionController) → Quiet x → Timed s time → P x (outcomeOf 0 (updates (rowsOf (allotted s time c))) (allotted s time c))
+  pub registers : (time id : ℕ) (class : Priority) → Timed s time → s .roster .count < 4 → P (register time id class) (outcomeOf 0 nothing (registerLeaves s time id class))
+  pub hands :
+      (time i : ℕ) (c : Priority) (key : InstanceKey) (bytes : List ℕ) (lent : Lent) → Timed s time → i < s .roster .count → length bytes ≤ 1472
+      → isShort (lentLength n lent) (slotsNeeded (limitsIn s)) ≡ false
+      → P (handIn time i c key bytes lent) (plain (handInLeaves s time i c key (length bytes) (enqueuedIn s i c key)))
+  pub tries :
+      (time i : ℕ) (lent : Lent) → Timed s time → i < s .roster .count → isShort (lentLength n lent) (slotsNeeded (limitsIn s)) ≡ false
+      → P (send time i lent) (outcomeOf 0 (action (attemptIn s time i .action)) (sendLeaves s time i (attemptIn s time i) .station))
+
+-- what a send attempt comes to is accepted
+accepts : (a : SendAction) → actionNumber a ≡ 0
+accepts (Send c slot sequence n forced) = refl
+accepts Empty = refl
+accepts (RateLimited wait) = refl
+
+module _ (s : Station) (n : ℕ) (P : Call → Outcome → Type 0) (cases : Cases s n P) where
+  -- a call that answers by its checks; `wrap` makes the outcome
+  by-checks :
+      (x : Call) (wrap : StationAnswer → Outcome) (checks : List Check) (done : StationAnswer) → applies checks 12 ≡ false
+      → ((answer : ℕ) → eqb answer 0 ≡ false → wrap (turnedDown s answer) ≡ outcomeOf answer nothing s)
+      → (NoneOf order checks → P x (wrap done)) → P x (wrap (leftBy (answerOf checks) s done))
+  unfolding leftBy
+  by-checks x wrap checks done twelve down go =
+      by-test (λ (r : StationAnswer). P x (wrap r)) (eqb (answerOf checks) 0) (λ e. go (none-where-accepted checks (eqb-true _ _ e)))
+      (λ e. subst (P x) (sym (down (answerOf checks) e)) (cases .turned-down x (answerOf checks) (eqb-false _ _ e) (not-full checks twelve)))
+
+  plain-down : (answer : ℕ) → eqb answer 0 ≡ false → plain (turnedDown s answer) ≡ outcomeOf answer nothing s
+  plain-down answer e = refl
+
+  signals-down : (answer : ℕ) → eqb answer 0 ≡ false → signals (turnedDown s answer) ≡ outcomeOf answer nothing s
+  signals-down answer e = rw e
+
+  allots-down : (answer : ℕ) → eqb answer 0 ≡ false → allots (turnedDown s answer) ≡ outcomeOf answer nothing s
+  allots-down answer e = rw e
+
+  passed : (time : ℕ) → NoneOf order (timedChecks (s .ledger) time) → Timed s time
+  passed time h = timed-by s time (timedChecks (s .ledger) time) refl refl refl h
+
+  ticks : (time : ℕ) (t : ControllerTicked) → Timed s time → P (tick time) (allots (tickLeaves s time t))
+  ticks time t h =
+      by-test (λ (r : StationAnswer). P (tick time) (allots r)) (t .changed) (λ e. cases .allots (tick time) time (t .controller) (quiet-tick time) h)
+      (λ e. cases .steers (tick time) time unchanged (t .controller) (quiet-tick time) (record { sends-none = refl; no-updates = refl }) h)
+
+  tries-to : (time i : ℕ) (lent : Lent) → P (send time i lent) (attempts (sentStation s (lentLength n lent) time i))
+  unfolding sentStation
+  tries-to time i lent =
+      by-test (λ (r : StationSent). P (send time i lent) (attempts r)) (eqb (answerOf checks) 0)
+      (λ e.
+      let h = none-where-accepted checks (eqb-true _ _ e) in
+      attempted (attemptIn s time i .action) (accepts (attemptIn s time i .action))
+      (cases .tries time i lent (timed-by s time checks refl refl refl h) (leb-false _ _ (h .1 .1 .1 .1 .1 .1 .1 .1 .1 .1 .1 .0)) (h .1 .1 .1 .1 .1 .1 .1 .0)))
+      (λ e.
+      subst (P (send time i lent)) (sym (down e)) (cases .turned-down (send time i lent) (answerOf checks) (eqb-false _ _ e) (not-full checks refl)))
+    where
+      checks : List Check
+      checks = sendChecks s (lentLength n lent) time i
+
+      down : eqb (answerOf checks) 0 ≡ false → attempts (record { answer = answerOf checks; action = Empty; station = s }) ≡ outcomeOf (answerOf checks) nothing s
+      down e = rw e
+
+      attempted :
+          (a : SendAction) → actionNumber a ≡ 0 → P (send time i lent) (outcomeOf 0 (action a) (sendLeaves s time i (attemptIn s time i) .station))
+          → P (send time i lent) (outcomeOf (actionNumber a) (cond (eqb (actionNumber a) 0) (action a) nothing) (sendLeaves s time i (attemptIn s time i) .station))
+      attempted a e h = rw e h
+
+  -- every call is one of the cases
+  pub by-case : (x : Call) → P x (outcome s n x)
+  unfolding outcome registeredStation eagainStation nacksStation tosStation rttStation tickedStation ratedStation handedStation
+  by-case (register time id class) =
+      by-checks (register time id class) plain (registerChecks s time id) (answerWith 0 false (registerLeaves s time id class)) refl plain-down
+      (λ h. cases .registers time id class (timed-by s time (registerChecks s time id) refl refl refl h) (leb-false _ _ (h .1 .1 .1 .1 .1 .1 .1 .1 .1 .1 .1 .1 .1 .0)))
+  by-case (eagain time) =
+      by-checks (eagain time) plain (timedChecks (s .ledger) time) _ refl plain-down
+      (λ h. cases .steers (eagain time) time nothing _ (quiet-eagain time) (record { sends-none = refl; no-updates = refl }) (passed time h))
+  by-case (tos time byte) =
+      by-checks (tos time byte) signals (timedChecks (s .ledger) time) _ refl signals-down
+      (λ h. cases .steers (tos time byte) time (signal _) _ (quiet-tos time byte) (record { sends-none = refl; no-updates = refl }) (passed time h))
+  by-case (nacks time count) =
+      by-checks (nacks time count) plain (timedChecks (s .ledger) time) _ refl plain-down
+      (λ h. cases .steers (nacks time count) time nothing _ (quiet-nacks time count) (record { sends-none = refl; no-updates = refl }) (passed time h))
+  by-case (rtt time peer sample) =
+      by-checks (rtt time peer sample) plain (rttChecks s time peer sample) _ refl plain-down
+      (λ h.
+      cases .steers (rtt time peer sample) time nothing _ (quiet-rtt time peer sample) (record { sends-none = refl; no-updates = refl })
+      (timed-by s time (rttChecks s time peer sample) refl refl refl h))
+  by-case (tick time) =
+      by-checks (tick time) allots (timedChecks (s .ledger) time) (tickLeaves s time (controllerTicked (s .controller) (s .config .controller) time)) refl allots-down
+      (λ h. ticks time (controllerTicked (s .controller) (s .config .controller) time) (passed time h))
+  by-case (handIn time i c key bytes lent) =
+      by-checks (handIn time i c key bytes lent) plain (handInChecks s (lentLength n lent) time i (length bytes)) _ refl plain-down
+      (λ h.
+      cases .hands time i c key bytes lent (timed-by s time (handInChecks s (lentLength n lent) time i (length bytes)) refl refl refl h)
+      (leb-false _ _ (h .1 .1 .1 .1 .1 .1 .1 .1 .1 .1 .1 .0)) (ltb-false _ _ (h .1 .1 .0)) (h .1 .1 .1 .1 .1 .1 .1 .0))
+  by-case (send time i lent) = tries-to time i lent
+  by-case (setRate time rate) =
+      by-checks (setRate time rate) allots (rateChecks (s .ledger) time rate)
+      (answerWith 0 true (allotted s time (controllerSet (s .controller) (s .config .controller) time rate))) refl allots-down
+      (λ h.
+      cases .allots (setRate time rate) time (controllerSet (s .controller) (s .config .controller) time rate) (quiet-rate time rate)
+      (timed-by s time (rateChecks (s .ledger) time rate) refl refl refl h))
