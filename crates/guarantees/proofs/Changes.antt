@@ -16,14 +16,14 @@ use Rattle.config.specs.Refusal.{Check, when, applies, order, answerOf}
 use Rattle.config.specs.declared.config.Priority.{Priority}
 use Rattle.numeric.proofs.Choice.{by-test}
 use Rattle.pacing.specs.Pool.{bytesOf, isShort}
-use Rattle.pacing.specs.WriterPacer.{actionNumber}
+use Rattle.pacing.specs.WriterPacer.{actionNumber, handInStored}
 use Rattle.pacing.specs.declared.coalescing.InstanceKey.{InstanceKey}
 use Rattle.pacing.specs.declared.writer_pacer.SendAction.{SendAction}
 use Rattle.pacing.specs.declared.writer_pacer.SendAction.the-variants.{Send, Empty, RateLimited}
 use Rattle.control.specs.Controller.{controllerTicked, controllerSet}
 use Rattle.control.specs.declared.controller.CongestionController.{CongestionController}
 use Rattle.control.specs.declared.controller.ControllerTicked.{ControllerTicked}
-use Rattle.station.specs.Station.{turnedDown, leftBy, answerWith, registerChecks, registerLeaves, registeredStation, steered, eagainStation, nacksStation, tosStation, rttChecks, rttStation, allotted, tickLeaves, tickedStation, ratedStation, limitsIn, slotsNeeded, handInChecks, enqueuedIn, handInLeaves, handedStation, sendChecks, attemptIn, sendLeaves, sentStation}
+use Rattle.station.specs.Station.{turnedDown, leftBy, answerWith, registerChecks, registerLeaves, registeredStation, steered, eagainStation, nacksStation, tosStation, rttChecks, rttStation, allotted, tickLeaves, tickedStation, ratedStation, limitsIn, slotsNeeded, handInChecks, enqueuedIn, handInLeaves, handedStation, poolHanded, sendChecks, attemptIn, sendLeaves, sentStation}
 use Rattle.station.specs.declared.station.Station.{Station}
 use Rattle.station.specs.declared.station.StationAnswer.{StationAnswer}
 use Rattle.station.specs.declared.station.StationSent.{StationSent}
@@ -99,13 +99,15 @@ not-full checks h e =
 -- ---- the cases; n is the length of the pool that the last call left
 
 pub record Cases (s : Station) (n : ℕ) (P : Call → Outcome → Type 0) : Type 0 where
-  pub turned-down : (x : Call) (answer : ℕ) → answer ≢ 0 → answer ≢ 12 → P x (outcomeOf answer nothing s)
+  pub turned-down :
+      (x : Call) (answer : ℕ) → answer ≢ 0 → answer ≢ 12 → ((p : List ℕ) → written s n x p ≡ p) → P x (outcomeOf answer nothing s)
   pub steers : (x : Call) (time : ℕ) (reply : Reply) (c : CongestionController) → Quiet x → Silent reply → Timed s time → P x (outcomeOf 0 reply (steered s time c))
   pub allots : (x : Call) (time : ℕ) (c : CongestionController) → Quiet x → Timed s time → P x (outcomeOf 0 (updates (rowsOf (allotted s time c))) (allotted s time c))
   pub registers : (time id : ℕ) (class : Priority) → Timed s time → s .roster .count < 4 → P (register time id class) (outcomeOf 0 nothing (registerLeaves s time id class))
   pub hands :
       (time i : ℕ) (c : Priority) (key : InstanceKey) (bytes : List ℕ) (lent : Lent) → Timed s time → i < s .roster .count → length bytes ≤ 1472
       → isShort (lentLength n lent) (slotsNeeded (limitsIn s)) ≡ false
+      → ((p : List ℕ) → written s n (handIn time i c key bytes lent) p ≡ handInStored p (limitsIn s) i c (enqueuedIn s i c key .kept) bytes)
       → P (handIn time i c key bytes lent) (plain (handInLeaves s time i c key (length bytes) (enqueuedIn s i c key)))
   pub tries :
       (time i : ℕ) (lent : Lent) → Timed s time → i < s .roster .count → isShort (lentLength n lent) (slotsNeeded (limitsIn s)) ≡ false
@@ -122,11 +124,14 @@ module _ (s : Station) (n : ℕ) (P : Call → Outcome → Type 0) (cases : Case
   by-checks :
       (x : Call) (wrap : StationAnswer → Outcome) (checks : List Check) (done : StationAnswer) → applies checks 12 ≡ false
       → ((answer : ℕ) → eqb answer 0 ≡ false → wrap (turnedDown s answer) ≡ outcomeOf answer nothing s)
-      → (NoneOf order checks → P x (wrap done)) → P x (wrap (leftBy (answerOf checks) s done))
+      → (eqb (answerOf checks) 0 ≡ false → (p : List ℕ) → written s n x p ≡ p)
+      → (eqb (answerOf checks) 0 ≡ true → NoneOf order checks → P x (wrap done)) → P x (wrap (leftBy (answerOf checks) s done))
   unfolding leftBy
-  by-checks x wrap checks done twelve down go =
-      by-test (λ (r : StationAnswer). P x (wrap r)) (eqb (answerOf checks) 0) (λ e. go (none-where-accepted checks (eqb-true _ _ e)))
-      (λ e. subst (P x) (sym (down (answerOf checks) e)) (cases .turned-down x (answerOf checks) (eqb-false _ _ e) (not-full checks twelve)))
+  by-checks x wrap checks done twelve down still go =
+      by-test (λ (r : StationAnswer). P x (wrap r)) (eqb (answerOf checks) 0) (λ e. go e (none-where-accepted checks (eqb-true _ _ e)))
+      (λ e.
+      subst (P x) (sym (down (answerOf checks) e))
+      (cases .turned-down x (answerOf checks) (eqb-false _ _ e) (not-full checks twelve) (still e)))
 
   plain-down : (answer : ℕ) → eqb answer 0 ≡ false → plain (turnedDown s answer) ≡ outcomeOf answer nothing s
   plain-down answer e = refl
@@ -154,7 +159,7 @@ module _ (s : Station) (n : ℕ) (P : Call → Outcome → Type 0) (cases : Case
       attempted (attemptIn s time i .action) (accepts (attemptIn s time i .action))
       (cases .tries time i lent (timed-by s time checks refl refl refl h) (leb-false _ _ (h .1 .1 .1 .1 .1 .1 .1 .1 .1 .1 .1 .0)) (h .1 .1 .1 .1 .1 .1 .1 .0)))
       (λ e.
-      subst (P (send time i lent)) (sym (down e)) (cases .turned-down (send time i lent) (answerOf checks) (eqb-false _ _ e) (not-full checks refl)))
+      subst (P (send time i lent)) (sym (down e)) (cases .turned-down (send time i lent) (answerOf checks) (eqb-false _ _ e) (not-full checks refl) (λ p. unfold written in refl)))
     where
       checks : List Check
       checks = sendChecks s (lentLength n lent) time i
@@ -169,36 +174,36 @@ module _ (s : Station) (n : ℕ) (P : Call → Outcome → Type 0) (cases : Case
 
   -- every call is one of the cases
   pub by-case : (x : Call) → P x (outcome s n x)
-  unfolding outcome registeredStation eagainStation nacksStation tosStation rttStation tickedStation ratedStation handedStation
+  unfolding outcome written poolHanded registeredStation eagainStation nacksStation tosStation rttStation tickedStation ratedStation handedStation
   by-case (register time id class) =
-      by-checks (register time id class) plain (registerChecks s time id) (answerWith 0 false (registerLeaves s time id class)) refl plain-down
-      (λ h. cases .registers time id class (timed-by s time (registerChecks s time id) refl refl refl h) (leb-false _ _ (h .1 .1 .1 .1 .1 .1 .1 .1 .1 .1 .1 .1 .1 .0)))
+      by-checks (register time id class) plain (registerChecks s time id) (answerWith 0 false (registerLeaves s time id class)) refl plain-down (λ e p. refl)
+      (λ e h. cases .registers time id class (timed-by s time (registerChecks s time id) refl refl refl h) (leb-false _ _ (h .1 .1 .1 .1 .1 .1 .1 .1 .1 .1 .1 .1 .1 .0)))
   by-case (eagain time) =
-      by-checks (eagain time) plain (timedChecks (s .ledger) time) _ refl plain-down
-      (λ h. cases .steers (eagain time) time nothing _ (quiet-eagain time) (record { sends-none = refl; no-updates = refl }) (passed time h))
+      by-checks (eagain time) plain (timedChecks (s .ledger) time) _ refl plain-down (λ e p. refl)
+      (λ e h. cases .steers (eagain time) time nothing _ (quiet-eagain time) (record { sends-none = refl; no-updates = refl }) (passed time h))
   by-case (tos time byte) =
-      by-checks (tos time byte) signals (timedChecks (s .ledger) time) _ refl signals-down
-      (λ h. cases .steers (tos time byte) time (signal _) _ (quiet-tos time byte) (record { sends-none = refl; no-updates = refl }) (passed time h))
+      by-checks (tos time byte) signals (timedChecks (s .ledger) time) _ refl signals-down (λ e p. refl)
+      (λ e h. cases .steers (tos time byte) time (signal _) _ (quiet-tos time byte) (record { sends-none = refl; no-updates = refl }) (passed time h))
   by-case (nacks time count) =
-      by-checks (nacks time count) plain (timedChecks (s .ledger) time) _ refl plain-down
-      (λ h. cases .steers (nacks time count) time nothing _ (quiet-nacks time count) (record { sends-none = refl; no-updates = refl }) (passed time h))
+      by-checks (nacks time count) plain (timedChecks (s .ledger) time) _ refl plain-down (λ e p. refl)
+      (λ e h. cases .steers (nacks time count) time nothing _ (quiet-nacks time count) (record { sends-none = refl; no-updates = refl }) (passed time h))
   by-case (rtt time peer sample) =
-      by-checks (rtt time peer sample) plain (rttChecks s time peer sample) _ refl plain-down
-      (λ h.
+      by-checks (rtt time peer sample) plain (rttChecks s time peer sample) _ refl plain-down (λ e p. refl)
+      (λ e h.
       cases .steers (rtt time peer sample) time nothing _ (quiet-rtt time peer sample) (record { sends-none = refl; no-updates = refl })
       (timed-by s time (rttChecks s time peer sample) refl refl refl h))
   by-case (tick time) =
-      by-checks (tick time) allots (timedChecks (s .ledger) time) (tickLeaves s time (controllerTicked (s .controller) (s .config .controller) time)) refl allots-down
-      (λ h. ticks time (controllerTicked (s .controller) (s .config .controller) time) (passed time h))
+      by-checks (tick time) allots (timedChecks (s .ledger) time) (tickLeaves s time (controllerTicked (s .controller) (s .config .controller) time)) refl allots-down (λ e p. refl)
+      (λ e h. ticks time (controllerTicked (s .controller) (s .config .controller) time) (passed time h))
   by-case (handIn time i c key bytes lent) =
-      by-checks (handIn time i c key bytes lent) plain (handInChecks s (lentLength n lent) time i (length bytes)) _ refl plain-down
-      (λ h.
+      by-checks (handIn time i c key bytes lent) plain (handInChecks s (lentLength n lent) time i (length bytes)) _ refl plain-down (λ e p. rw e)
+      (λ e h.
       cases .hands time i c key bytes lent (timed-by s time (handInChecks s (lentLength n lent) time i (length bytes)) refl refl refl h)
-      (leb-false _ _ (h .1 .1 .1 .1 .1 .1 .1 .1 .1 .1 .1 .0)) (ltb-false _ _ (h .1 .1 .0)) (h .1 .1 .1 .1 .1 .1 .1 .0))
+      (leb-false _ _ (h .1 .1 .1 .1 .1 .1 .1 .1 .1 .1 .1 .0)) (ltb-false _ _ (h .1 .1 .0)) (h .1 .1 .1 .1 .1 .1 .1 .0) (λ p. rw e))
   by-case (send time i lent) = tries-to time i lent
   by-case (setRate time rate) =
       by-checks (setRate time rate) allots (rateChecks (s .ledger) time rate)
-      (answerWith 0 true (allotted s time (controllerSet (s .controller) (s .config .controller) time rate))) refl allots-down
-      (λ h.
+      (answerWith 0 true (allotted s time (controllerSet (s .controller) (s .config .controller) time rate))) refl allots-down (λ e p. refl)
+      (λ e h.
       cases .allots (setRate time rate) time (controllerSet (s .controller) (s .config .controller) time rate) (quiet-rate time rate)
       (timed-by s time (rateChecks (s .ledger) time rate) refl refl refl h))

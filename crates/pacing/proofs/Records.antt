@@ -116,7 +116,7 @@ module _ (m : Limits) (i : ℕ) (c : Priority) (words pool : List ℕ) (s : ℕ)
 
 -- ---- classes
 
-same-class : (c d : Priority) → classNumber c ≡ classNumber d → c ≡ d
+pub same-class : (c d : Priority) → classNumber c ≡ classNumber d → c ≡ d
 same-class P0 P0 e = refl
 same-class P0 P1 e = absurd (omega arith)
 same-class P0 P2 e = absurd (omega arith)
@@ -127,7 +127,7 @@ same-class P2 P0 e = absurd (omega arith)
 same-class P2 P1 e = absurd (omega arith)
 same-class P2 P2 e = refl
 
-by-class : (P : Priority → Type 0) (c d : Priority) → P c → (classNumber d ≢ classNumber c → P d) → P d
+pub by-class : (P : Priority → Type 0) (c d : Priority) → P c → (classNumber d ≢ classNumber c → P d) → P d
 by-class P c d here there = go (ℕ-discrete (classNumber d) (classNumber c))
   where
     go : Dec (classNumber d ≡ classNumber c) → P d
@@ -552,7 +552,7 @@ module _ (m : Limits) (i : ℕ) (s : Parts) (b : Book) (ok : Matches m i s b) wh
       room t h = omega (arith, limit, ok .storage .roomy c)
 
   -- nothing goes
-  stays : (p : PacerCore) (words : List ℕ) → Noted i (s .words) words → p .queues ≡ s .core .queues → p .«next_sequence» ≡ s .core .«next_sequence» → Matches m i (partsOf p words (s .pool)) b
+  pub stays : (p : PacerCore) (words : List ℕ) → Noted i (s .words) words → p .queues ≡ s .core .queues → p .«next_sequence» ≡ s .core .«next_sequence» → Matches m i (partsOf p words (s .pool)) b
   unfolding waiting
   stays p words q same next =
       record {
@@ -653,13 +653,13 @@ all-shown m i (call ∷ calls) s b ok =
 abbrev zeros : ℕ → List ℕ
 zeros n = replicate n 0
 
-getD-zeros : (n k : ℕ) → getD (zeros n) k 0 ≡ 0
+pub getD-zeros : (n k : ℕ) → getD (zeros n) k 0 ≡ 0
 getD-zeros zero zero = refl
 getD-zeros zero (suc k) = refl
 getD-zeros (suc n) zero = refl
 getD-zeros (suc n) (suc k) = getD-zeros n k
 
-length-zeros : (n : ℕ) → length (zeros n) ≡ n
+pub length-zeros : (n : ℕ) → length (zeros n) ≡ n
 length-zeros zero = refl
 length-zeros (suc n) = ap suc (length-zeros n)
 
@@ -679,16 +679,23 @@ new-ring m time rate P0 = refl
 new-ring m time rate P1 = refl
 new-ring m time rate P2 = refl
 
+-- words without an entry
+pub stored-new :
+    (m : Limits) (i n : ℕ) (pool : List ℕ) → Limited m → pacerAt i + 1805 ≤ n → bytesOf (i * slotsOf m + slotsOf m) ≤ length pool
+    → Stored m i (replicate n 0) pool
+stored-new m i n pool ok long wide =
+    record { roomy = ok .most; long = rw (length-zeros n) long; wide = wide; short = λ c s h. zeros-short n (queueAt i c) c s }
+
 pub made-matches :
-    (m : Limits) (time rate : ℕ) (pool : List ℕ) → Limited m → bytesOf (slotsOf m) ≤ length pool
-    → Matches m 0 (partsOf (made time m rate) (replicate 1805 0) pool) emptyBook
+    (m : Limits) (i time rate : ℕ) (words pool : List ℕ) → Limited m → Stored m i words pool
+    → Matches m i (partsOf (made time m rate) words pool) emptyBook
 unfolding waiting contents window
-made-matches m time rate pool ok wide =
+made-matches m i time rate words pool ok storage =
     record {
       rings = λ c. subst Sound (sym (new-ring m time rate c)) (record { some = ok .least c; fits = omega arith });
       limits = λ c. ap (λ (r : Ring). r .limit) (new-ring m time rate c);
-      storage = record { roomy = ok .most; long = rw (length-zeros 1805) (omega arith); wide = omega arith; short = λ c s h. zeros-short 1805 (queueAt 0 c) c s };
-      lists = λ c. ap (contents (held m 0 c (replicate 1805 0) pool)) (new-ring m time rate c);
+      storage = storage;
+      lists = λ c. ap (contents (held m i c words pool)) (new-ring m time rate c);
       next = refl;
       nextP2 = refl;
     }
@@ -698,4 +705,5 @@ pub kept-to-the-byte :
     (m : Limits) (time rate : ℕ) (pool : List ℕ) → Limited m → bytesOf (slotsOf m) ≤ length pool → (calls : List Call)
     → AllShown m 0 (partsOf (made time m rate) (replicate 1805 0) pool) emptyBook calls
 kept-to-the-byte m time rate pool ok wide calls =
-    all-shown m 0 calls (partsOf (made time m rate) (replicate 1805 0) pool) emptyBook (made-matches m time rate pool ok wide)
+    all-shown m 0 calls (partsOf (made time m rate) (replicate 1805 0) pool) emptyBook
+    (made-matches m 0 time rate (replicate 1805 0) pool ok (stored-new m 0 1805 pool ok (omega arith) (omega arith)))

@@ -220,7 +220,7 @@ pub record Noted (i : ℕ) (l m : List ℕ) : Type 0 where
   pub same-length : length m ≡ length l
   pub off : (j : ℕ) → (j < pacerAt i + 1792) ⊎ (pacerAt i + 1805 ≤ j) → getD m j 0 ≡ getD l j 0
 
-noted-none : (i : ℕ) (l : List ℕ) → Noted i l l
+pub noted-none : (i : ℕ) (l : List ℕ) → Noted i l l
 noted-none i l = record { same-length = refl; off = λ j h. refl }
 
 noted-then : (i : ℕ) (l m n : List ℕ) → Noted i l m → Noted i m n → Noted i l n
