@@ -39,31 +39,31 @@ pub record Quiet (x : Call) : Type 0 where
   pub book : (m : Limits) (b : Book) (answer : ℕ) (s : Sent) → noted m b x answer s ≡ b
   pub pool : (s : Station) (n : ℕ) (p : List ℕ) → written s n x p ≡ p
   pub lent : lentIn x ≡ owed
-  pub pays : (i : ℕ) (s : State) → paidBy i s x ≡ 0
+  pub pays : (i : ℕ) (reply : Reply) → paidBy i x reply ≡ 0
 
 quiet-eagain : (time : ℕ) → Quiet (eagain time)
 unfolding noted written paidBy
-quiet-eagain time = record { book = λ m b a s. refl; pool = λ s n p. refl; lent = refl; pays = λ i s. refl }
+quiet-eagain time = record { book = λ m b a s. refl; pool = λ s n p. refl; lent = refl; pays = λ i r. refl }
 
 quiet-tos : (time byte : ℕ) → Quiet (tos time byte)
 unfolding noted written paidBy
-quiet-tos time byte = record { book = λ m b a s. refl; pool = λ s n p. refl; lent = refl; pays = λ i s. refl }
+quiet-tos time byte = record { book = λ m b a s. refl; pool = λ s n p. refl; lent = refl; pays = λ i r. refl }
 
 quiet-nacks : (time count : ℕ) → Quiet (nacks time count)
 unfolding noted written paidBy
-quiet-nacks time count = record { book = λ m b a s. refl; pool = λ s n p. refl; lent = refl; pays = λ i s. refl }
+quiet-nacks time count = record { book = λ m b a s. refl; pool = λ s n p. refl; lent = refl; pays = λ i r. refl }
 
 quiet-rtt : (time peer : ℕ) (sample : Float) → Quiet (rtt time peer sample)
 unfolding noted written paidBy
-quiet-rtt time peer sample = record { book = λ m b a s. refl; pool = λ s n p. refl; lent = refl; pays = λ i s. refl }
+quiet-rtt time peer sample = record { book = λ m b a s. refl; pool = λ s n p. refl; lent = refl; pays = λ i r. refl }
 
 quiet-tick : (time : ℕ) → Quiet (tick time)
 unfolding noted written paidBy
-quiet-tick time = record { book = λ m b a s. refl; pool = λ s n p. refl; lent = refl; pays = λ i s. refl }
+quiet-tick time = record { book = λ m b a s. refl; pool = λ s n p. refl; lent = refl; pays = λ i r. refl }
 
 quiet-rate : (time rate : ℕ) → Quiet (setRate time rate)
 unfolding noted written paidBy
-quiet-rate time rate = record { book = λ m b a s. refl; pool = λ s n p. refl; lent = refl; pays = λ i s. refl }
+quiet-rate time rate = record { book = λ m b a s. refl; pool = λ s n p. refl; lent = refl; pays = λ i r. refl }
 
 -- a reply that tells of no record and of no budgets
 pub record Silent (r : Reply) : Type 0 where

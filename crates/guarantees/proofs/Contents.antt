@@ -206,12 +206,12 @@ put-carried p p′ start bs bs′ h e f =
     record {
       lengths = simp (length-append, length-take, length-drop, e, f);
       bytes = λ k laid-same same.
-        append-same (take start p) (take start p′) (bs ++ drop (start + length bs) p) (bs′ ++ drop (start + length bs′) p′) k
-        (long ∙ sym long′)
-        (λ q. let r : k < start = omega (arith, long) in getD-take start p k 0 r ∙ same ∙ sym (getD-take start p′ k 0 r))
-        (λ j q.
-        append-same bs bs′ (drop (start + length bs) p) (drop (start + length bs′) p′) j f (λ r. laid-same j r (omega (arith, long)))
-        (λ i r. behind p bs i k (omega (arith, long)) ∙ same ∙ sym (behind p′ bs′ i k (omega (arith, long)))));
+          append-same (take start p) (take start p′) (bs ++ drop (start + length bs) p) (bs′ ++ drop (start + length bs′) p′) k
+          (long ∙ sym long′)
+          (λ q. let r : k < start = omega (arith, long) in getD-take start p k 0 r ∙ same ∙ sym (getD-take start p′ k 0 r))
+          (λ j q.
+          append-same bs bs′ (drop (start + length bs) p) (drop (start + length bs′) p′) j f (λ r. laid-same j r (omega (arith, long)))
+          (λ i r. behind p bs i k (omega (arith, long)) ∙ same ∙ sym (behind p′ bs′ i k (omega (arith, long)))));
     }
   where
     long : length (take start p) ≡ start
@@ -265,7 +265,8 @@ after-carried s p p′ x y e f =
     rw (
       written-laid s (length p) x (inPlace s (lentIn x) p),
       written-laid s (length p′) y (inPlace s (lentIn y) p′),
-      ← ap (λ (r : Read). r .spot-is) same)
+      ← ap (λ (r : Read). r .spot-is) same,
+    )
     (record {
       lengths = second .lengths;
       bytes = λ k h q. second .bytes k (put-laid k (stateOf s p) x y (h .1)) (first .bytes k (h .0) q);
@@ -298,14 +299,14 @@ alike s p p′ (x ∷ xs) [] e f = absurd (omega (arith, ap length f))
 alike s p p′ (x ∷ xs) (y ∷ ys) e f =
     let heads : blanked x ≡ blanked y = ap (λ (l : List Call). getD l 0 (blanked x)) f in
     let step : Carried (λ k. StepSame k (stateOf s p) x y) p p′ (after (stateOf s p) x .pool) (after (stateOf s p′) y .pool)
-        = after-carried s p p′ x y e heads in
+    = after-carried s p p′ x y e heads in
     let same : outcome s (length p) x ≡ outcome s (length p′) y
-        = ap (λ (r : Read). r .outcome-is) (read-alike s (length p) (length p′) x y e heads) in
+    = ap (λ (r : Read). r .outcome-is) (read-alike s (length p) (length p′) x y e heads) in
     let rest : Alike (after (stateOf s p) x) (after (stateOf s p′) y) xs ys
-        = subst (λ (z : Station). Alike (after (stateOf s p) x) (stateOf z (after (stateOf s p′) y .pool)) xs ys)
-        (ap (λ (o : Outcome). o .station) same)
-        (alike (after (stateOf s p) x .station) (after (stateOf s p) x .pool) (after (stateOf s p′) y .pool) xs ys (step .lengths)
-        (ap (drop 1) f)) in
+    = subst (λ (z : Station). Alike (after (stateOf s p) x) (stateOf z (after (stateOf s p′) y .pool)) xs ys)
+    (ap (λ (o : Outcome). o .station) same)
+    (alike (after (stateOf s p) x .station) (after (stateOf s p) x .pool) (after (stateOf s p′) y .pool) xs ys (step .lengths)
+    (ap (drop 1) f)) in
     record {
       same-answers = ap₂ {C = List Answer} (λ o l. record { answer = o .answer; reply = o .reply } ∷ l) same (rest .same-answers);
       same-station = rest .same-station;

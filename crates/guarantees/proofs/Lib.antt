@@ -4,3 +4,6 @@ pub mod Fates
 pub mod Contents
 pub mod Rosters
 pub mod Tokens
+pub mod Tallies
+pub mod HandIns
+pub mod Sound

@@ -26,10 +26,10 @@ use Rattle.pacing.specs.declared.token_bucket.TokenBucket.{TokenBucket}
 use Rattle.pacing.specs.declared.writer_pacer.SendAction.{SendAction}
 use Rattle.pacing.specs.declared.writer_pacer.SendAction.the-variants.{Send, Empty, RateLimited}
 use Rattle.pacing.specs.declared.writer_pacer.WriterPacerMetrics.{WriterPacerMetrics}
-use Rattle.station.specs.Station.{pacerIn, limitsIn, slotsNeeded, stationConfigOf, newStation, madeStation, enqueuedIn}
+use Rattle.station.specs.Station.{pacerIn, limitsIn, slotsNeeded, madeStation, enqueuedIn}
 use Rattle.station.specs.declared.station.Station.{Station}
 use Rattle.guarantees.specs.Book.{Queue, Page, Book, emptyPage, emptyBook, noted, sentIn}
-use Rattle.guarantees.specs.Calls.{Lent, owed, instead, Call, register, eagain, tos, nacks, rtt, tick, handIn, send, setRate, Reply, nothing, signal, unchanged, updates, action, shownBy, State, stateOf, inPlace, lentIn, lentLength, answered, after, run, answers}
+use Rattle.guarantees.specs.Calls.{Lent, owed, instead, Call, register, eagain, tos, nacks, rtt, tick, handIn, send, setRate, Reply, nothing, signal, unchanged, updates, action, Outcome, shownBy, State, stateOf, inPlace, lentIn, lentLength, answered, after, run, answers}
 
 -- ==== lists of calls, with the book kept
 
@@ -209,9 +209,6 @@ pub record Fates (m : Limits) (start : Kept) (calls : List Call) : Type 0 where
 abbrev pub bucketIn : State → ℕ → TokenBucket
 bucketIn s i = pacerIn (s .station) i .tokens
 
-abbrev pub isAccepted : State → Call → Bool
-isAccepted s x = eqb (answered s x .answer) accepted
-
 abbrev pub isUpdates : Reply → Bool
 isUpdates (updates rows) = true
 isUpdates nothing = false
@@ -219,17 +216,24 @@ isUpdates (signal b) = false
 isUpdates unchanged = false
 isUpdates (action a) = false
 
+-- whether a call registers pacer i
+abbrev pub begins : ℕ → Station → Call → ℕ → Bool
+begins i s (register time id class) answer = cond (eqb answer accepted) (eqb i (s .roster .count)) false
+begins i s (eagain time) answer = false
+begins i s (tos time byte) answer = false
+begins i s (nacks time count) answer = false
+begins i s (rtt time peer sample) answer = false
+begins i s (tick time) answer = false
+begins i s (handIn time j class key bytes lent) answer = false
+begins i s (send time j lent) answer = false
+begins i s (setRate time rate) answer = false
+
 -- whether a call sets the rate of pacer i: "A pacer starts at `min_rate_bps`, which counts as a rate setting; so does each budget update"
-unfoldable pub sets : ℕ → State → Call → Bool
-sets i s (register time id class) = cond (isAccepted s (register time id class)) (eqb i (s .station .roster .count)) false
-sets i s (eagain time) = false
-sets i s (tos time byte) = false
-sets i s (nacks time count) = false
-sets i s (rtt time peer sample) = false
-sets i s (tick time) = isUpdates (answered s (tick time) .reply)
-sets i s (handIn time j class key bytes lent) = false
-sets i s (send time j lent) = false
-sets i s (setRate time rate) = isUpdates (answered s (setRate time rate) .reply)
+unfoldable pub setsBy : ℕ → Station → Call → Outcome → Bool
+setsBy i s x o = cond (isUpdates (o .reply)) true (begins i s x (o .answer))
+
+abbrev pub sets : ℕ → State → Call → Bool
+sets i s x = setsBy i (s .station) x (answered s x)
 
 -- no call of a list sets it
 unfoldable pub Unset : ℕ → State → List Call → Type 0
@@ -251,20 +255,21 @@ paidIn (signal b) = 0
 paidIn unchanged = 0
 paidIn (updates rows) = 0
 
-unfoldable pub paidBy : ℕ → State → Call → ℕ
-paidBy i s (send time j lent) = cond (eqb j i) (paidIn (answered s (send time j lent) .reply)) 0
-paidBy i s (register time id class) = 0
-paidBy i s (eagain time) = 0
-paidBy i s (tos time byte) = 0
-paidBy i s (nacks time count) = 0
-paidBy i s (rtt time peer sample) = 0
-paidBy i s (tick time) = 0
-paidBy i s (handIn time j class key bytes lent) = 0
-paidBy i s (setRate time rate) = 0
+-- the bytes that a call sends from pacer i
+unfoldable pub paidBy : ℕ → Call → Reply → ℕ
+paidBy i (send time j lent) reply = cond (eqb j i) (paidIn reply) 0
+paidBy i (register time id class) reply = 0
+paidBy i (eagain time) reply = 0
+paidBy i (tos time byte) reply = 0
+paidBy i (nacks time count) reply = 0
+paidBy i (rtt time peer sample) reply = 0
+paidBy i (tick time) reply = 0
+paidBy i (handIn time j class key bytes lent) reply = 0
+paidBy i (setRate time rate) reply = 0
 
 unfoldable pub paid : ℕ → State → List Call → ℕ
 paid i s [] = 0
-paid i s (x ∷ xs) = paidBy i s x + paid i (after s x) xs
+paid i s (x ∷ xs) = paidBy i x (answered s x .reply) + paid i (after s x) xs
 
 -- a refill, that is a credit above 0, moves the refill time, and nothing else does
 unfoldable pub refillsBy : ℕ → State → Call → ℕ
@@ -404,7 +409,7 @@ Contents start calls =
 
 -- a station just made over a pool, and an empty book
 abbrev pub started : CongestionConfig → ℕ → List ℕ → Kept
-started c time pool = keptOf (stateOf (newStation (stationConfigOf c) time) pool) emptyBook
+started c time pool = keptOf (stateOf (madeStation c time .station) pool) emptyBook
 
 pub record Demand3 (c : CongestionConfig) (time : ℕ) (pool : List ℕ) (calls : List Call) : Type 0 where
   pub fates : Fates (limitsOf c) (started c time pool) calls
