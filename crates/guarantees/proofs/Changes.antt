@@ -119,6 +119,36 @@ accepts (Send c slot sequence n forced) = refl
 accepts Empty = refl
 accepts (RateLimited wait) = refl
 
+-- a send attempt is turned down, or comes to what its pacer's attempt does
+module _ (s : Station) (n time i : ℕ) (lent : Lent) (P : Outcome → Type 0) where
+  abbrev checks : List Check
+  checks = sendChecks s (lentLength n lent) time i
+
+  abbrev tried : StationSent
+  tried = sendLeaves s time i (attemptIn s time i)
+
+  send-down : eqb (answerOf checks) 0 ≡ false → attempts (record { answer = answerOf checks; action = Empty; station = s }) ≡ outcomeOf (answerOf checks) nothing s
+  send-down e = rw e
+
+  send-taken :
+      (a : SendAction) → actionNumber a ≡ 0 → P (outcomeOf 0 (action a) (tried .station))
+      → P (outcomeOf (actionNumber a) (cond (eqb (actionNumber a) 0) (action a) nothing) (tried .station))
+  send-taken a e h = rw e h
+
+  pub by-send :
+      ((answer : ℕ) → answer ≢ 0 → answer ≢ 12 → P (outcomeOf answer nothing s))
+      → (Timed s time → i < s .roster .count → isShort (lentLength n lent) (slotsNeeded (limitsIn s)) ≡ false
+      → P (outcomeOf 0 (action (tried .action)) (tried .station)))
+      → P (outcome s n (send time i lent))
+  unfolding outcome sentStation
+  by-send down taken =
+      by-test (λ (r : StationSent). P (attempts r)) (eqb (answerOf checks) 0)
+      (λ e.
+      let h = none-where-accepted checks (eqb-true _ _ e) in
+      send-taken (tried .action) (accepts (tried .action))
+      (taken (timed-by s time checks refl refl refl h) (leb-false _ _ (h .1 .1 .1 .1 .1 .1 .1 .1 .1 .1 .1 .0)) (h .1 .1 .1 .1 .1 .1 .1 .0)))
+      (λ e. subst P (sym (send-down e)) (down (answerOf checks) (eqb-false _ _ e) (not-full checks refl)))
+
 module _ (s : Station) (n : ℕ) (P : Call → Outcome → Type 0) (cases : Cases s n P) where
   -- a call that answers by its checks; `wrap` makes the outcome
   by-checks :
@@ -150,28 +180,6 @@ module _ (s : Station) (n : ℕ) (P : Call → Outcome → Type 0) (cases : Case
       by-test (λ (r : StationAnswer). P (tick time) (allots r)) (t .changed) (λ e. cases .allots (tick time) time (t .controller) (quiet-tick time) h)
       (λ e. cases .steers (tick time) time unchanged (t .controller) (quiet-tick time) (record { sends-none = refl; no-updates = refl }) h)
 
-  tries-to : (time i : ℕ) (lent : Lent) → P (send time i lent) (attempts (sentStation s (lentLength n lent) time i))
-  unfolding sentStation
-  tries-to time i lent =
-      by-test (λ (r : StationSent). P (send time i lent) (attempts r)) (eqb (answerOf checks) 0)
-      (λ e.
-      let h = none-where-accepted checks (eqb-true _ _ e) in
-      attempted (attemptIn s time i .action) (accepts (attemptIn s time i .action))
-      (cases .tries time i lent (timed-by s time checks refl refl refl h) (leb-false _ _ (h .1 .1 .1 .1 .1 .1 .1 .1 .1 .1 .1 .0)) (h .1 .1 .1 .1 .1 .1 .1 .0)))
-      (λ e.
-      subst (P (send time i lent)) (sym (down e)) (cases .turned-down (send time i lent) (answerOf checks) (eqb-false _ _ e) (not-full checks refl) (λ p. unfold written in refl)))
-    where
-      checks : List Check
-      checks = sendChecks s (lentLength n lent) time i
-
-      down : eqb (answerOf checks) 0 ≡ false → attempts (record { answer = answerOf checks; action = Empty; station = s }) ≡ outcomeOf (answerOf checks) nothing s
-      down e = rw e
-
-      attempted :
-          (a : SendAction) → actionNumber a ≡ 0 → P (send time i lent) (outcomeOf 0 (action a) (sendLeaves s time i (attemptIn s time i) .station))
-          → P (send time i lent) (outcomeOf (actionNumber a) (cond (eqb (actionNumber a) 0) (action a) nothing) (sendLeaves s time i (attemptIn s time i) .station))
-      attempted a e h = rw e h
-
   -- every call is one of the cases
   pub by-case : (x : Call) → P x (outcome s n x)
   unfolding outcome written poolHanded registeredStation eagainStation nacksStation tosStation rttStation tickedStation ratedStation handedStation
@@ -200,7 +208,8 @@ module _ (s : Station) (n : ℕ) (P : Call → Outcome → Type 0) (cases : Case
       (λ e h.
       cases .hands time i c key bytes lent (timed-by s time (handInChecks s (lentLength n lent) time i (length bytes)) refl refl refl h)
       (leb-false _ _ (h .1 .1 .1 .1 .1 .1 .1 .1 .1 .1 .1 .0)) (ltb-false _ _ (h .1 .1 .0)) (h .1 .1 .1 .1 .1 .1 .1 .0) (λ p. rw e))
-  by-case (send time i lent) = tries-to time i lent
+  by-case (send time i lent) =
+      by-send s n time i lent (P (send time i lent)) (λ answer z t. cases .turned-down (send time i lent) answer z t (λ p. refl)) (cases .tries time i lent)
   by-case (setRate time rate) =
       by-checks (setRate time rate) allots (rateChecks (s .ledger) time rate)
       (answerWith 0 true (allotted s time (controllerSet (s .controller) (s .config .controller) time rate))) refl allots-down (λ e p. refl)

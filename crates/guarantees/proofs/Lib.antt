@@ -7,3 +7,5 @@ pub mod Tokens
 pub mod Tallies
 pub mod HandIns
 pub mod Sound
+pub mod Paces
+pub mod Starts
