@@ -9,3 +9,4 @@ pub mod HandIns
 pub mod Sound
 pub mod Paces
 pub mod Starts
+pub mod Pages

@@ -1,0 +1,235 @@
+-- A sound station matches its book after every call of a list, and each record sent is the first that its page lists; in the owed pool
+-- the bytes too. Assumes nothing.
+use Prim.Native.Nat.{ℕ, _+_, _*_, _≤_, _<_, max}
+use mathlib.Core.Bool.{Bool, true, false, cond}
+use mathlib.Core.List.{List, [], _∷_, _++_, map}
+use mathlib.Core.Path.{_≡_, refl, sym, ap, subst, _∙_}
+use native.Mathlib.Omega.{arith}
+use lib.ListN.{length, getD, take}
+use Rattle.config.specs.declared.config.Priority.{Priority}
+use Rattle.config.specs.declared.config.Priority.the-variants.{P0, P1, P2}
+use Rattle.pacing.proofs.Records.{Matches}
+use Rattle.pacing.proofs.Windows.{window-map}
+use Rattle.pacing.specs.Entries.{queueAt, entryOf, noKey, look}
+use Rattle.pacing.specs.Pool.{bytesOf, isShort}
+use Rattle.pacing.specs.Records.{Held, heldOf, held, waiting, Parts, partsOf, Shows}
+use Rattle.pacing.specs.Window.{contents}
+use Rattle.pacing.specs.WriterPacer.{ringOf, sentBytes}
+use Rattle.pacing.specs.declared.entries.Entry.{Entry}
+use Rattle.pacing.specs.declared.pool.Limits.{Limits}
+use Rattle.pacing.specs.declared.ring.Ring.{Ring}
+use Rattle.pacing.specs.declared.writer_pacer.SendAction.{SendAction}
+use Rattle.pacing.specs.declared.writer_pacer.SendAction.the-variants.{Send, Empty, RateLimited}
+use Rattle.station.specs.Station.{pacerIn, limitsIn, slotsNeeded, shownBytes, attemptIn}
+use Rattle.station.specs.declared.station.Station.{Station}
+use Rattle.guarantees.specs.Book.{Page, Book, sentIn, noted}
+use Rattle.guarantees.specs.Calls.{Lent, owed, instead, Call, register, eagain, tos, nacks, rtt, tick, handIn, send, setRate, Reply, action, Outcome, outcome, lentIn, inPlace, written, shownBy, State, answered, after, run}
+use Rattle.guarantees.specs.Theorem.{Kept, keep, keeps, Always, Each, enqueuedOf, sentOf, droppedOf, coalescedOf, metricsOf, queued, Matched, Fated, FirstIs, ActionShows, ReplyShows, Sends, Shown, HoldsBytes, FirstBytes, ShownBytes, OwedOrShort, Owed, Fates}
+use Rattle.guarantees.proofs.Changes.{by-send}
+use Rattle.guarantees.proofs.Fates.{one-fate}
+use Rattle.guarantees.proofs.HandIns.{pageView, count-is, tries-out}
+use Rattle.guarantees.proofs.Sound.{Sound, sound-outcome}
+use Rattle.guarantees.proofs.Tallies.{Tallied}
+
+-- ---- what a match says
+
+-- a page's list is the ring's, in order
+module _ (m : Limits) (g : List ℕ) (s : Station) (b : Book) (ok : Sound m g s b) (i : ℕ) (lo : i < s .roster .count) where
+  in-order : (c : Priority) → queued s i c ≡ map (λ (x : Held). x .entry) (b i .queues c .waiting)
+  unfolding queued contents waiting held
+  in-order c =
+      let r : Ring = ringOf (pacerIn s i .queues) c in
+      sym (window-map (λ (x : Held). x .entry) (held m i c (s .words) g) (max 1 (r .limit)) (r .head) (r .count))
+      ∙ ap (map (λ (x : Held). x .entry)) (ok .pages i lo .lists c)
+
+  tally : Tallied (s .words) i (b i)
+  tally = ok .tallies i lo
+
+  accepted-is : (c : Priority) → enqueuedOf (metricsOf s i) c ≡ length (b i .queues c .accepted)
+  accepted-is P0 = tally .accepted P0
+  accepted-is P1 = tally .accepted P1
+  accepted-is P2 = tally .accepted P2
+
+  sent-is : (c : Priority) → sentOf (metricsOf s i) c ≡ length (b i .queues c .sent)
+  sent-is P0 = tally .sent P0
+  sent-is P1 = tally .sent P1
+  sent-is P2 = tally .sent P2
+
+  pushed-out-is : (c : Priority) → droppedOf (metricsOf s i) c ≡ length (b i .queues c .pushedOut)
+  pushed-out-is P0 = sym (tally .pushed-p0)
+  pushed-out-is P1 = tally .pushed-p1
+  pushed-out-is P2 = tally .pushed-p2
+
+  replaced-is : (c : Priority) → coalescedOf (metricsOf s i) c ≡ length (b i .queues c .replaced)
+  replaced-is P0 = sym (tally .replaced-p0)
+  replaced-is P1 = sym (tally .replaced-p1)
+  replaced-is P2 = tally .replaced-p2
+
+  matched : (c : Priority) → Matched s i c (b i .queues c)
+  matched c =
+      record {
+        in-order = in-order c;
+        accepted-is = accepted-is c;
+        sent-is = sent-is c;
+        pushed-out-is = pushed-out-is c;
+        replaced-is = replaced-is c;
+        waiting-is = count-is m i (partsOf (pacerIn s i) (s .words) g) (b i) (ok .pages i lo) noKey c;
+      }
+
+pub fated : (m : Limits) (g : List ℕ) (k : Kept) → Sound m g (k .state .station) (k .book) → Fated k
+fated m g k ok =
+    record {
+      one-fate = λ i c. one-fate (k .book i .queues c) _ (ok .balanced i .balanced c);
+      matched = λ i lo. matched m g (k .state .station) (k .book) ok i lo;
+      unregistered = ok .unregistered;
+    }
+
+-- ---- what is shown
+
+-- a list that has one begins with its first
+pub first-of : (xs : List Held) (d : Held) → 0 < length xs → take 1 xs ≡ getD xs 0 d ∷ []
+first-of [] d h = absurd (omega arith)
+first-of (x ∷ xs) d h = refl
+
+abbrev nobody : Held
+nobody = heldOf (entryOf 0 0 noKey) []
+
+module _ (m : Limits) (i : ℕ) (g : List ℕ) (p : Page) where
+  action-shows : (a : SendAction) → Shows m i g (pageView p) a → ActionShows p a
+  action-shows (Send c slot sequence n forced) w =
+      record {
+        first = getD (p .queues c .waiting) 0 nobody;
+        is-first = first-of (p .queues c .waiting) nobody (w .waits);
+        sequence-is = w .sequence-is;
+        length-is = w .length-is;
+      }
+  action-shows Empty w = tt
+  action-shows (RateLimited wait) w = tt
+
+  action-bytes : (a : SendAction) → Shows m i g (pageView p) a → FirstBytes p (sentBytes m i a g) (action a)
+  action-bytes (Send c slot sequence n forced) w = λ first e.
+      sym (w .bytes-are)
+      ∙ ap (λ (xs : List Held). getD xs 0 nobody .bytes) (sym (first-of (p .queues c .waiting) nobody (w .waits)) ∙ e)
+  action-bytes Empty w = tt
+  action-bytes (RateLimited wait) w = tt
+
+module _ (m : Limits) (g : List ℕ) (k : Kept) (ok : Sound m g (k .state .station) (k .book)) where
+  abbrev s : Station
+  s = k .state .station
+
+  shows : (time i : ℕ) → i < s .roster .count → Shows m i g (pageView (k .book i)) (attemptIn s time i .action)
+  shows time i lo = tries-out m i (partsOf (pacerIn s i) (s .words) g) (k .book i) (s .config .pacer .enabled) time (ok .pages i lo) .0
+
+  pub shown : (x : Call) → Shown k x
+  unfolding Shown
+  shown (send time i lent) =
+      by-send s (length (k .state .pool)) time i lent (λ o. ReplyShows (k .book i) (o .reply)) (λ answer z t. tt)
+      (λ h lo wide. action-shows m i g (k .book i) (attemptIn s time i .action) (shows time i lo))
+  shown (register time id class) = tt
+  shown (eagain time) = tt
+  shown (tos time byte) = tt
+  shown (nacks time count) = tt
+  shown (rtt time peer sample) = tt
+  shown (tick time) = tt
+  shown (handIn time i class key bytes lent) = tt
+  shown (setRate time rate) = tt
+
+  -- where the pool that a call is lent is g
+  pub shown-bytes : (x : Call) → inPlace s (lentIn x) (k .state .pool) ≡ g → ShownBytes k x
+  unfolding ShownBytes
+  shown-bytes (send time i lent) e =
+      by-send s (length (k .state .pool)) time i lent
+      (λ o. FirstBytes (k .book i) (shownBy s i (o .reply) (inPlace s lent (k .state .pool))) (o .reply)) (λ answer z t. tt)
+      (λ h lo wide.
+      let a : SendAction = attemptIn s time i .action in
+      subst (λ (pool : List ℕ). FirstBytes (k .book i) (shownBytes s i a pool) (action a)) (sym e)
+      (subst (λ (l : Limits). FirstBytes (k .book i) (sentBytes l i a g) (action a)) (sym (ok .same-limits))
+      (action-bytes m i g (k .book i) a (shows time i lo))))
+  shown-bytes (register time id class) e = tt
+  shown-bytes (eagain time) e = tt
+  shown-bytes (tos time byte) e = tt
+  shown-bytes (nacks time count) e = tt
+  shown-bytes (rtt time peer sample) e = tt
+  shown-bytes (tick time) e = tt
+  shown-bytes (handIn time i class key bytes lent) e = tt
+  shown-bytes (setRate time rate) e = tt
+
+pub holds-bytes : (m : Limits) (k : Kept) → Sound m (k .state .pool) (k .state .station) (k .book) → HoldsBytes k
+holds-bytes m k ok i lo c =
+    subst
+    (λ (l : Limits).
+    waiting l i c (pacerIn (k .state .station) i) (k .state .station .words) (k .state .pool) ≡ k .book i .queues c .waiting)
+    (sym (ok .same-limits)) (ok .pages i lo .lists c)
+
+-- ---- lists
+
+-- what holds at the start of a list, and after a call of the rest of it
+module _ (m : Limits) (I : Kept → List Call → Type 0) (step : (k : Kept) (x : Call) (xs : List Call) → I k (x ∷ xs) → I (keep m k x) xs) where
+  pub always : (P : Kept → Type 0) → ((k : Kept) (xs : List Call) → I k xs → P k) → (k : Kept) (xs : List Call) → I k xs → Always m P k xs
+  unfolding Always
+  always P holds k [] i = holds k [] i
+  always P holds k (x ∷ xs) i = (holds k (x ∷ xs) i, always P holds (keep m k x) xs (step k x xs i))
+
+  pub each : (P : Kept → Call → Type 0) → ((k : Kept) (x : Call) (xs : List Call) → I k (x ∷ xs) → P k x) → (k : Kept) (xs : List Call) → I k xs → Each m P k xs
+  unfolding Each
+  each P holds k [] i = tt
+  each P holds k (x ∷ xs) i = (holds k x xs i, each P holds (keep m k x) xs (step k x xs i))
+
+  pub kept-to : (k : Kept) (xs ys : List Call) → I k (xs ++ ys) → I (keeps m k xs) ys
+  unfolding keeps
+  kept-to k [] ys i = i
+  kept-to k (x ∷ xs) ys i = kept-to (keep m k x) xs ys (step k x (xs ++ ys) i)
+
+-- sound over some pool: where others write in the pools that are lent, no pool has the bytes, and all else holds
+pub record SomePool (m : Limits) (k : Kept) : Type 0 where
+  pub pool : List ℕ
+  pub sound : Sound m pool (k .state .station) (k .book)
+
+pub some-step : (m : Limits) (k : Kept) (x : Call) (xs : List Call) → SomePool m k → SomePool m (keep m k x)
+unfolding keep after
+some-step m k x xs ok =
+    record {
+      pool = written (k .state .station) (length (k .state .pool)) x (ok .pool);
+      sound = sound-outcome m (ok .pool) (k .state .station) (k .book) (ok .sound) (length (k .state .pool)) x;
+    }
+
+-- sound over the owed pool
+pub record OwedPool (m : Limits) (k : Kept) (xs : List Call) : Type 0 where
+  pub sound : Sound m (k .state .pool) (k .state .station) (k .book)
+  pub lent : Owed m xs
+
+-- a pool as owed, or one too short, leaves the pool in place
+owed-in : (m : Limits) (s : Station) → limitsIn s ≡ m → (l : Lent) (pool : List ℕ) → OwedOrShort m l → inPlace s l pool ≡ pool
+unfolding inPlace
+owed-in m s e owed pool h = refl
+owed-in m s e (instead other) pool h = rw (ap (λ (x : Limits). isShort (length other) (slotsNeeded x)) e ∙ h)
+
+module _ (m : Limits) (k : Kept) (x : Call) (xs : List Call) (ok : OwedPool m k (x ∷ xs)) where
+  in-place : inPlace (k .state .station) (lentIn x) (k .state .pool) ≡ k .state .pool
+  in-place = owed-in m (k .state .station) (ok .sound .same-limits) (lentIn x) (k .state .pool) (ok .lent .0)
+
+  owed-step : OwedPool m (keep m k x) xs
+  unfolding keep after
+  owed-step =
+      record {
+        sound =
+            rw in-place
+            (sound-outcome m (k .state .pool) (k .state .station) (k .book) (ok .sound) (length (k .state .pool)) x);
+        lent = ok .lent .1;
+      }
+
+  owed-shown : ShownBytes k x
+  owed-shown = shown-bytes m (k .state .pool) k (ok .sound) x in-place
+
+pub fates :
+    (m : Limits) (k : Kept) (xs : List Call) → SomePool m k
+    → (bytesOf (slotsNeeded m) ≤ length (k .state .pool) → Sound m (k .state .pool) (k .state .station) (k .book)) → Fates m k xs
+fates m k xs ok owns =
+    record {
+      fated = always m (λ (j : Kept) (ys : List Call). SomePool m j) (some-step m) Fated (λ j ys i. fated m (i .pool) j (i .sound)) k xs ok;
+      shown = each m (λ (j : Kept) (ys : List Call). SomePool m j) (some-step m) Shown (λ j x ys i. shown m (i .pool) j (i .sound) x) k xs ok;
+      bytes-held = λ wide lent.
+          always m (OwedPool m) (owed-step m) HoldsBytes (λ j ys i. holds-bytes m j (i .sound)) k xs (record { sound = owns wide; lent = lent });
+      bytes-shown = λ wide lent.
+          each m (OwedPool m) (owed-step m) ShownBytes (owed-shown m) k xs (record { sound = owns wide; lent = lent });
+    }
