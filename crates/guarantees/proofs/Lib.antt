@@ -10,3 +10,5 @@ pub mod Sound
 pub mod Paces
 pub mod Starts
 pub mod Pages
+pub mod Waits
+pub mod Theorem
