@@ -1,14 +1,16 @@
 -- A sound station matches its book after every call of a list, and each record sent is the first that its page lists; in the owed pool
 -- the bytes too. Assumes nothing.
 use Prim.Native.Nat.{ℕ, _+_, _*_, _≤_, _<_, max}
-use mathlib.Core.Bool.{Bool, true, false, cond}
+use mathlib.Core.Bool.{Bool, true, false, true≢false, cond}
 use mathlib.Core.List.{List, [], _∷_, _++_, map}
 use mathlib.Core.Path.{_≡_, refl, sym, ap, subst, _∙_}
 use native.Mathlib.Omega.{arith}
+use borrow.Author.Tests.{ltb-false}
 use lib.ListN.{length, getD, take}
 use Rattle.config.specs.declared.config.Priority.{Priority}
 use Rattle.config.specs.declared.config.Priority.the-variants.{P0, P1, P2}
 use Rattle.pacing.proofs.Records.{Matches}
+use Rattle.pacing.proofs.Rings.{length-contents}
 use Rattle.pacing.proofs.Windows.{window-map}
 use Rattle.pacing.specs.Entries.{queueAt, entryOf, noKey, look}
 use Rattle.pacing.specs.Pool.{bytesOf, isShort}
@@ -22,13 +24,13 @@ use Rattle.pacing.specs.declared.writer_pacer.SendAction.{SendAction}
 use Rattle.pacing.specs.declared.writer_pacer.SendAction.the-variants.{Send, Empty, RateLimited}
 use Rattle.station.specs.Station.{pacerIn, limitsIn, slotsNeeded, shownBytes, attemptIn}
 use Rattle.station.specs.declared.station.Station.{Station}
-use Rattle.guarantees.specs.Book.{Page, Book, sentIn, noted}
-use Rattle.guarantees.specs.Calls.{Lent, owed, instead, Call, register, eagain, tos, nacks, rtt, tick, handIn, send, setRate, Reply, action, Outcome, outcome, lentIn, inPlace, written, shownBy, State, answered, after, run}
+use Rattle.guarantees.specs.Book.{Page, Book, none, sentIn, noted}
+use Rattle.guarantees.specs.Calls.{Lent, owed, instead, Call, register, eagain, tos, nacks, rtt, tick, handIn, send, setRate, Reply, action, Outcome, outcome, lentLength, lentIn, inPlace, written, shownBy, State, answered, after, run}
 use Rattle.guarantees.specs.Theorem.{Kept, keep, keeps, Always, Each, enqueuedOf, sentOf, droppedOf, coalescedOf, metricsOf, queued, Matched, Fated, FirstIs, ActionShows, ReplyShows, Sends, Shown, HoldsBytes, FirstBytes, ShownBytes, OwedOrShort, Owed, Fates}
-use Rattle.guarantees.proofs.Changes.{by-send}
+use Rattle.guarantees.proofs.Changes.{Cases, by-case, by-send}
 use Rattle.guarantees.proofs.Fates.{one-fate}
 use Rattle.guarantees.proofs.HandIns.{pageView, count-is, tries-out}
-use Rattle.guarantees.proofs.Sound.{Sound, sound-outcome}
+use Rattle.guarantees.proofs.Sound.{Sound, noted-down, sound-outcome}
 use Rattle.guarantees.proofs.Tallies.{Tallied}
 
 -- ---- what a match says
@@ -113,6 +115,24 @@ module _ (m : Limits) (i : ℕ) (g : List ℕ) (p : Page) where
   action-bytes Empty w = tt
   action-bytes (RateLimited wait) w = tt
 
+-- a claim about send attempts is owed for a call that is one
+by-sends : (P : ℕ → Type 0) (x : Call) → ((time i : ℕ) (lent : Lent) → x ≡ send time i lent → P i) → Sends P x
+by-sends P (send time i lent) f = f time i lent refl
+by-sends P (register time id class) f = tt
+by-sends P (eagain time) f = tt
+by-sends P (tos time byte) f = tt
+by-sends P (nacks time count) f = tt
+by-sends P (rtt time peer sample) f = tt
+by-sends P (tick time) f = tt
+by-sends P (handIn time i class key bytes lent) f = tt
+by-sends P (setRate time rate) f = tt
+
+-- a call shows the bytes of the first of a class of pacer i
+abbrev BytesBy : Kept → ℕ → Call → Type 0
+BytesBy k i x =
+    FirstBytes (k .book i) (shownBy (k .state .station) i (answered (k .state) x .reply) (inPlace (k .state .station) (lentIn x) (k .state .pool)))
+    (answered (k .state) x .reply)
+
 module _ (m : Limits) (g : List ℕ) (k : Kept) (ok : Sound m g (k .state .station) (k .book)) where
   abbrev s : Station
   s = k .state .station
@@ -122,37 +142,28 @@ module _ (m : Limits) (g : List ℕ) (k : Kept) (ok : Sound m g (k .state .stati
 
   pub shown : (x : Call) → Shown k x
   unfolding Shown
-  shown (send time i lent) =
-      by-send s (length (k .state .pool)) time i lent (λ o. ReplyShows (k .book i) (o .reply)) (λ answer z t. tt)
-      (λ h lo wide. action-shows m i g (k .book i) (attemptIn s time i .action) (shows time i lo))
-  shown (register time id class) = tt
-  shown (eagain time) = tt
-  shown (tos time byte) = tt
-  shown (nacks time count) = tt
-  shown (rtt time peer sample) = tt
-  shown (tick time) = tt
-  shown (handIn time i class key bytes lent) = tt
-  shown (setRate time rate) = tt
+  shown x =
+      by-sends (λ i. ReplyShows (k .book i) (answered (k .state) x .reply)) x
+      (λ time i lent e.
+      subst (λ (y : Call). ReplyShows (k .book i) (answered (k .state) y .reply)) (sym e)
+      (by-send s (length (k .state .pool)) time i lent (λ o. ReplyShows (k .book i) (o .reply)) (λ answer z t. tt)
+      (λ h lo wide. action-shows m i g (k .book i) (attemptIn s time i .action) (shows time i lo))))
 
   -- where the pool that a call is lent is g
   pub shown-bytes : (x : Call) → inPlace s (lentIn x) (k .state .pool) ≡ g → ShownBytes k x
   unfolding ShownBytes
-  shown-bytes (send time i lent) e =
-      by-send s (length (k .state .pool)) time i lent
+  shown-bytes x is =
+      by-sends (λ i. BytesBy k i x) x
+      (λ time i lent e.
+      subst (BytesBy k i) (sym e)
+      (by-send s (length (k .state .pool)) time i lent
       (λ o. FirstBytes (k .book i) (shownBy s i (o .reply) (inPlace s lent (k .state .pool))) (o .reply)) (λ answer z t. tt)
       (λ h lo wide.
       let a : SendAction = attemptIn s time i .action in
-      subst (λ (pool : List ℕ). FirstBytes (k .book i) (shownBytes s i a pool) (action a)) (sym e)
+      subst (λ (pool : List ℕ). FirstBytes (k .book i) (shownBytes s i a pool) (action a))
+      (sym (subst (λ (y : Call). inPlace s (lentIn y) (k .state .pool) ≡ g) e is))
       (subst (λ (l : Limits). FirstBytes (k .book i) (sentBytes l i a g) (action a)) (sym (ok .same-limits))
-      (action-bytes m i g (k .book i) a (shows time i lo))))
-  shown-bytes (register time id class) e = tt
-  shown-bytes (eagain time) e = tt
-  shown-bytes (tos time byte) e = tt
-  shown-bytes (nacks time count) e = tt
-  shown-bytes (rtt time peer sample) e = tt
-  shown-bytes (tick time) e = tt
-  shown-bytes (handIn time i class key bytes lent) e = tt
-  shown-bytes (setRate time rate) e = tt
+      (action-bytes m i g (k .book i) a (shows time i lo))))))
 
 pub holds-bytes : (m : Limits) (k : Kept) → Sound m (k .state .pool) (k .state .station) (k .book) → HoldsBytes k
 holds-bytes m k ok i lo c =
@@ -221,15 +232,117 @@ module _ (m : Limits) (k : Kept) (x : Call) (xs : List Call) (ok : OwedPool m k 
   owed-shown : ShownBytes k x
   owed-shown = shown-bytes m (k .state .pool) k (ok .sound) x in-place
 
+-- ---- a first pool that is too short: every hand-in and send attempt is turned down, and nothing waits
+
+pub empty-list : {A : Type 0} (xs : List A) → length xs ≡ 0 → xs ≡ []
+empty-list [] e = refl
+empty-list (x ∷ xs) e = absurd (omega arith)
+
+record ShortPool (m : Limits) (k : Kept) (xs : List Call) : Type 0 where
+  some : SomePool m k
+  short : isShort (length (k .state .pool)) (slotsNeeded m) ≡ true
+  idle : (i : ℕ) (c : Priority) → k .book i .queues c .waiting ≡ []
+  lent : Owed m xs
+
+lent-short :
+    (m : Limits) (l : Lent) (pool : List ℕ) → isShort (length pool) (slotsNeeded m) ≡ true → OwedOrShort m l
+    → isShort (lentLength (length pool) l) (slotsNeeded m) ≡ true
+lent-short m owed pool short h = short
+lent-short m (instead other) pool short h = h
+
+-- what a call that is lent such a pool leaves
+record Idle (m : Limits) (b : Book) (s : Station) (n : ℕ) (p : List ℕ) (x : Call) (o : Outcome) : Type 0 where
+  pool : written s n x p ≡ p
+  book : noted m b x (o .answer) (sentIn (o .reply)) ≡ b
+
+idle-outcome :
+    (m : Limits) (b : Book) (s : Station) (n : ℕ) (p : List ℕ) (x : Call) → isShort (lentLength n (lentIn x)) (slotsNeeded (limitsIn s)) ≡ true
+    → Idle m b s n p x (outcome s n x)
+unfolding written noted
+idle-outcome m b s n p x = by-case s n P cases x
+  where
+    P : Call → Outcome → Type 0
+    P x o = isShort (lentLength n (lentIn x)) (slotsNeeded (limitsIn s)) ≡ true → Idle m b s n p x o
+
+    cases : Cases s n P
+    cases =
+        record {
+          turned-down = λ x answer z t still short. record { pool = still p; book = noted-down m b x answer z t };
+          steers = λ x time reply c q silent h short. record { pool = q .pool s n p; book = q .book m b 0 (sentIn reply) };
+          allots = λ x time c q h short. record { pool = q .pool s n p; book = q .book m b 0 none };
+          registers = λ time id class h lo short. record { pool = refl; book = refl };
+          hands = λ time i c key bytes lent h lo size wide puts short. absurd (true≢false (sym short ∙ wide));
+          tries = λ time i lent h lo wide short. absurd (true≢false (sym short ∙ wide));
+        }
+
+module _ (m : Limits) (k : Kept) (x : Call) (xs : List Call) (ok : ShortPool m k (x ∷ xs)) where
+  too-short : isShort (lentLength (length (k .state .pool)) (lentIn x)) (slotsNeeded (limitsIn (k .state .station))) ≡ true
+  too-short =
+      ap (λ (l : Limits). isShort (lentLength (length (k .state .pool)) (lentIn x)) (slotsNeeded l)) (ok .some .sound .same-limits)
+      ∙ lent-short m (lentIn x) (k .state .pool) (ok .short) (ok .lent .0)
+
+  left-idle : (p : List ℕ) → Idle m (k .book) (k .state .station) (length (k .state .pool)) p x (answered (k .state) x)
+  left-idle p = idle-outcome m (k .book) (k .state .station) (length (k .state .pool)) p x too-short
+
+  same-pool : after (k .state) x .pool ≡ k .state .pool
+  unfolding after
+  same-pool =
+      left-idle (inPlace (k .state .station) (lentIn x) (k .state .pool)) .pool
+      ∙ owed-in m (k .state .station) (ok .some .sound .same-limits) (lentIn x) (k .state .pool) (ok .lent .0)
+
+  short-step : ShortPool m (keep m k x) xs
+  unfolding keep
+  short-step =
+      record {
+        some = some-step m k x xs (ok .some);
+        short = ap (λ (p : List ℕ). isShort (length p) (slotsNeeded m)) same-pool ∙ ok .short;
+        idle = λ i c. ap (λ (b : Book). b i .queues c .waiting) (left-idle [] .book) ∙ ok .idle i c;
+        lent = ok .lent .1;
+      }
+
+  -- no send attempt is accepted
+  short-shown : ShownBytes k x
+  unfolding ShownBytes
+  short-shown =
+      by-sends (λ i. BytesBy k i x) x
+      (λ time i lent e.
+      subst (BytesBy k i) (sym e)
+      (by-send (k .state .station) (length (k .state .pool)) time i lent
+      (λ o. FirstBytes (k .book i) (shownBy (k .state .station) i (o .reply) (inPlace (k .state .station) lent (k .state .pool))) (o .reply)) (λ answer z t. tt)
+      (λ h lo wide. absurd (true≢false (sym (subst (λ (y : Call). isShort (lentLength (length (k .state .pool)) (lentIn y)) (slotsNeeded (limitsIn (k .state .station))) ≡ true) e too-short) ∙ wide)))))
+
+short-holds : (m : Limits) (k : Kept) (xs : List Call) → ShortPool m k xs → HoldsBytes k
+unfolding waiting
+short-holds m k xs ok i lo c =
+    empty-list _
+    (length-contents (held (limitsIn s) i c (s .words) (k .state .pool)) (ringOf (pacerIn s i .queues) c)
+    ∙ count-is m i (partsOf (pacerIn s i) (s .words) (ok .some .pool)) (k .book i) (ok .some .sound .pages i lo) noKey c
+    ∙ ap length (ok .idle i c))
+    ∙ sym (ok .idle i c)
+  where
+    s : Station
+    s = k .state .station
+
+-- ---- part 1
+
+either : (P : Type 0) (t : Bool) → (t ≡ true → P) → (t ≡ false → P) → P
+either P true f g = f refl
+either P false f g = g refl
+
 pub fates :
-    (m : Limits) (k : Kept) (xs : List Call) → SomePool m k
+    (m : Limits) (k : Kept) (xs : List Call) → SomePool m k → ((i : ℕ) (c : Priority) → k .book i .queues c .waiting ≡ [])
     → (bytesOf (slotsNeeded m) ≤ length (k .state .pool) → Sound m (k .state .pool) (k .state .station) (k .book)) → Fates m k xs
-fates m k xs ok owns =
+unfolding isShort
+fates m k xs ok idle owns =
     record {
       fated = always m (λ (j : Kept) (ys : List Call). SomePool m j) (some-step m) Fated (λ j ys i. fated m (i .pool) j (i .sound)) k xs ok;
       shown = each m (λ (j : Kept) (ys : List Call). SomePool m j) (some-step m) Shown (λ j x ys i. shown m (i .pool) j (i .sound) x) k xs ok;
-      bytes-held = λ wide lent.
-          always m (OwedPool m) (owed-step m) HoldsBytes (λ j ys i. holds-bytes m j (i .sound)) k xs (record { sound = owns wide; lent = lent });
-      bytes-shown = λ wide lent.
-          each m (OwedPool m) (owed-step m) ShownBytes (owed-shown m) k xs (record { sound = owns wide; lent = lent });
+      bytes-held = λ lent.
+          either (Always m HoldsBytes k xs) (isShort (length (k .state .pool)) (slotsNeeded m))
+          (λ e. always m (ShortPool m) (short-step m) HoldsBytes (short-holds m) k xs (record { some = ok; short = e; idle = idle; lent = lent }))
+          (λ e. always m (OwedPool m) (owed-step m) HoldsBytes (λ j ys i. holds-bytes m j (i .sound)) k xs (record { sound = owns (ltb-false _ _ e); lent = lent }));
+      bytes-shown = λ lent.
+          either (Each m ShownBytes k xs) (isShort (length (k .state .pool)) (slotsNeeded m))
+          (λ e. each m (ShortPool m) (short-step m) ShownBytes (short-shown m) k xs (record { some = ok; short = e; idle = idle; lent = lent }))
+          (λ e. each m (OwedPool m) (owed-step m) ShownBytes (owed-shown m) k xs (record { sound = owns (ltb-false _ _ e); lent = lent }));
     }

@@ -40,7 +40,7 @@ module _ (c : CongestionConfig) (time : ℕ) (made : madeStation c time .answer 
 pub theorem : Theorem
 theorem c time pool made calls =
     record {
-      fates = fates (limitsOf c) (started c time pool) calls (some-made c time made pool) (sound-made c time made pool);
+      fates = fates (limitsOf c) (started c time pool) calls (some-made c time made pool) (λ i d. refl) (sound-made c time made pool);
       allowance = allowance (started c time pool .state) (ticking-made c time made) calls;
       waits = waits (limitsOf c) (started c time pool) calls (some-made c time made pool) (ticking-made c time made);
       contents = contents (started c time pool .state) calls;

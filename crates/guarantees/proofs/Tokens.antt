@@ -9,6 +9,7 @@ use native.Mathlib.Nat.{mul-le-mul-left}
 use native.Mathlib.Omega.{arith}
 use lib.Dec.{ltb, leb, eqb}
 use borrow.Author.Tests.{ltb-true, ltb-false, leb-true, eq-eqb, ne-eqb, le-ltb, le-leb}
+use Rattle.config.specs.Config.{classNumber}
 use Rattle.config.specs.declared.config.Priority.{Priority}
 use Rattle.config.specs.declared.config.Priority.the-variants.{P0, P1, P2}
 use Rattle.numeric.proofs.Choice.{by-test}
@@ -143,6 +144,16 @@ next-some q P0 n = absurd n
 next-some q P1 n = n
 next-some q P2 n = n .1
 
+-- no class before it has a record
+next-before : (q : Queues) (c d : Priority) → q .p0 .count ≡ 0 → Next q c → classNumber d < classNumber c → ringOf q d .count ≡ 0
+next-before q P0 d e n h = absurd n
+next-before q P1 P0 e n h = e
+next-before q P1 P1 e n h = absurd (omega arith)
+next-before q P1 P2 e n h = absurd (omega arith)
+next-before q P2 P0 e n h = e
+next-before q P2 P1 e n h = n .0
+next-before q P2 P2 e n h = absurd (omega arith)
+
 none : (n : ℕ) → ltb 0 n ≡ false → n ≡ 0
 none n e = let h : n ≤ 0 = ltb-false 0 n e in omega arith
 
@@ -237,6 +248,7 @@ next-goes p l i time P2 e n m =
 pub record GoesAt (p q : PacerCore) (l l′ : List ℕ) (i wait later : ℕ) : Type 0 where
   pub class : Priority
   pub some : 0 < ringOf (p .queues) class .count
+  pub none-before : (d : Priority) → classNumber d < classNumber class → ringOf (p .queues) d .count ≡ 0
   pub worked-out : wait ≡ waitOf (frontOf (p .queues) l i class .length - q .tokens .tokens) (q .tokens .«rate_bps»)
   pub goes :
       attempt q l′ i later .action
@@ -439,6 +451,7 @@ wait-goes p l i time last wait later l′ h t u s a w =
         record {
           class = c;
           some = n;
+          none-before = λ d h. next-before (p .queues) c d (k .idle) (k .next) h;
           worked-out = k .told-as;
           goes =
               next-goes (withTokens p (k .left)) l′ i later c (k .idle) (k .next)

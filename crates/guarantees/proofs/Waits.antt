@@ -12,7 +12,7 @@ use Rattle.config.specs.declared.config.Priority.{Priority}
 use Rattle.pacing.proofs.Records.{Matches}
 use Rattle.pacing.proofs.Rings.{contents-first, slot-below}
 use Rattle.pacing.proofs.Slots.{noted-send, look-noted}
-use Rattle.pacing.specs.Entries.{queueAt, look, mostOf}
+use Rattle.pacing.specs.Entries.{queueAt, look, mostOf, noKey}
 use Rattle.pacing.specs.Records.{Held, held, waiting, limitIn, partsOf}
 use Rattle.pacing.specs.Ring.{slotAt, fateNumber}
 use Rattle.pacing.specs.WriterPacer.{ringOf, frontOf, attempt, attemptBy, sendNoted}
@@ -32,9 +32,9 @@ use Rattle.guarantees.specs.Calls.{Lent, Call, send, Reply, nothing, sig
 use Rattle.guarantees.specs.Theorem.{Kept, keep, keeps, bucketIn, AllTurnedDown, HeadGoes}
 use Rattle.guarantees.specs.Theorem as theorem
 use Rattle.guarantees.proofs.Changes.{Timed, Cases, by-case, by-send}
-use Rattle.guarantees.proofs.HandIns.{pageView}
+use Rattle.guarantees.proofs.HandIns.{pageView, count-is}
 use Rattle.guarantees.proofs.Paces.{Ticking, ticking-run}
-use Rattle.guarantees.proofs.Pages.{SomePool, some-step, kept-to}
+use Rattle.guarantees.proofs.Pages.{empty-list, SomePool, some-step, kept-to}
 use Rattle.guarantees.proofs.Rosters.{pacer-same}
 use Rattle.guarantees.proofs.Sound.{Sound}
 use Rattle.guarantees.proofs.Tokens.{Paced, GoesAt, wait-enabled, wait-queues, wait-goes}
@@ -172,6 +172,9 @@ module _
           class = go .class;
           head = headOf (go .class);
           is-first = first-is (go .class) (go .some);
+          none-before = λ d lt.
+              empty-list (b i .queues d .waiting)
+              (sym (count-is m i (partsOf p (s .words) g) (b i) matches noKey d) ∙ go .none-before d lt);
           worked-out = go .worked-out;
           slot = slotAt (ringOf (q .queues) (go .class)) 0;
           goes = ap action (go .goes);

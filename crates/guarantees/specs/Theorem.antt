@@ -14,7 +14,7 @@ use Rattle.config.specs.declared.config.CongestionConfig.{CongestionConfig}
 use Rattle.config.specs.declared.config.Priority.{Priority}
 use Rattle.config.specs.declared.config.Priority.the-variants.{P0, P1, P2}
 use Rattle.pacing.specs.Entries.{queueAt, look}
-use Rattle.pacing.specs.Pool.{bytesOf, isShort, limitsOf, slotStart}
+use Rattle.pacing.specs.Pool.{isShort, limitsOf, slotStart}
 use Rattle.pacing.specs.Records.{Held, waiting}
 use Rattle.pacing.specs.TokenBucket.{waitOf}
 use Rattle.pacing.specs.Window.{contents}
@@ -201,8 +201,8 @@ Owed m (x ∷ xs) = OwedOrShort m (lentIn x) × Owed m xs
 pub record Fates (m : Limits) (start : Kept) (calls : List Call) : Type 0 where
   pub fated : Always m Fated start calls
   pub shown : Each m Shown start calls
-  pub bytes-held : bytesOf (slotsNeeded m) ≤ length (start .state .pool) → Owed m calls → Always m HoldsBytes start calls
-  pub bytes-shown : bytesOf (slotsNeeded m) ≤ length (start .state .pool) → Owed m calls → Each m ShownBytes start calls
+  pub bytes-held : Owed m calls → Always m HoldsBytes start calls
+  pub bytes-shown : Owed m calls → Each m ShownBytes start calls
 
 -- ==== 2. the byte allowance
 
@@ -303,11 +303,12 @@ unfoldable pub AllTurnedDown : State → List Call → Type 0
 AllTurnedDown s [] = Unit {0}
 AllTurnedDown s (x ∷ xs) = (answered s x .answer ≢ accepted) × ((answered s x .answer ≢ queueFull) × AllTurnedDown (after s x) xs)
 
--- the first record of a class of the page, for which the wait was worked out, goes with the reply
+-- the first record of the first class of the page that has one, for which the wait was worked out, goes with the reply
 pub record HeadGoes (b : Page) (bucket : TokenBucket) (wait : ℕ) (reply : Reply) : Type 0 where
   pub class : Priority
   pub head : Held
   pub is-first : take 1 (b .queues class .waiting) ≡ head ∷ []
+  pub none-before : (d : Priority) → classNumber d < classNumber class → b .queues d .waiting ≡ []
   pub worked-out : wait ≡ waitOf (head .entry .length - bucket .tokens) (bucket .«rate_bps»)
   pub slot : ℕ
   pub goes : reply ≡ action (Send class slot (head .entry .sequence) (head .entry .length) false)
