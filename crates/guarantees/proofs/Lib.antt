@@ -12,3 +12,4 @@ pub mod Starts
 pub mod Pages
 pub mod Waits
 pub mod Theorem
+pub mod Worked

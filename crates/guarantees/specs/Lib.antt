@@ -2,3 +2,4 @@ pub mod Examples
 pub mod Calls
 pub mod Book
 pub mod Theorem
+pub mod Worked

@@ -1,0 +1,178 @@
+-- One short list of calls on a new station, worked through: what each call answers, and the book after them all (document 01, "What the
+-- port owes on paper"). Definitions only; `proofs/Worked.antt` has the checker compute both.
+use Prim.Native.Nat.{ℕ}
+use mathlib.Core.List.{List, [], _∷_, map}
+use mathlib.Core.Path.{_≡_}
+use lib.ListN.{replicate}
+use Rattle.config.specs.Config.{defaults}
+use Rattle.config.specs.declared.config.CongestionConfig.{CongestionConfig}
+use Rattle.config.specs.declared.config.Priority.the-variants.{P0, P1, P2}
+use Rattle.pacing.specs.Entries.{keyOfHashes, noKey}
+use Rattle.pacing.specs.Pool.{bytesOf, limitsOf}
+use Rattle.pacing.specs.Records.{Held}
+use Rattle.pacing.specs.WriterPacer.{actionValues}
+use Rattle.pacing.specs.declared.coalescing.InstanceKey.{InstanceKey}
+use Rattle.station.specs.Station.{slotsNeeded}
+use Rattle.guarantees.specs.Book.{Queue, Page}
+use Rattle.guarantees.specs.Calls.{owed, Call, register, handIn, send, Reply, nothing, signal, unchanged, updates, action, Answer, answers}
+use Rattle.guarantees.specs.Theorem.{Kept, keeps, started}
+
+-- ---- the station
+
+-- the default settings but for the queue limits: one record in P0, one in P1, two in P2
+abbrev pub settings : CongestionConfig
+settings =
+    record {
+      enabled = defaults .enabled;
+      «min_rate_bps» = defaults .«min_rate_bps»;
+      «max_rate_bps» = defaults .«max_rate_bps»;
+      «ai_step_bps» = defaults .«ai_step_bps»;
+      «md_factor_hard» = defaults .«md_factor_hard»;
+      «md_factor_soft» = defaults .«md_factor_soft»;
+      «stable_window_ms» = defaults .«stable_window_ms»;
+      «cooldown_ms» = defaults .«cooldown_ms»;
+      «score_tick_ms» = defaults .«score_tick_ms»;
+      «score_decay» = defaults .«score_decay»;
+      «decrease_threshold» = defaults .«decrease_threshold»;
+      «increase_threshold» = defaults .«increase_threshold»;
+      «hysteresis_band» = defaults .«hysteresis_band»;
+      «eagain_is_hard» = defaults .«eagain_is_hard»;
+      «eagain_impulse» = defaults .«eagain_impulse»;
+      «rtt_impulse» = defaults .«rtt_impulse»;
+      «nack_rate_threshold» = defaults .«nack_rate_threshold»;
+      «nack_impulse» = defaults .«nack_impulse»;
+      «repair_budget_ratio» = defaults .«repair_budget_ratio»;
+      «max_queue_p0» = 1;
+      «max_queue_p1» = 1;
+      «max_queue_p2» = 2;
+      «p0_min_share» = defaults .«p0_min_share»;
+      «p0_min_bps» = defaults .«p0_min_bps»;
+      «ecn_mode» = defaults .«ecn_mode»;
+    }
+
+-- a pool of zeros, just long enough: 23,552 bytes, "4 × 1,472 × the sum of the three limits" (document 01)
+abbrev pub pool : List ℕ
+pool = replicate (bytesOf (slotsNeeded (limitsOf settings))) 0
+
+-- the station made at time 0, and an empty book
+abbrev pub start : Kept
+start = started settings 0 pool
+
+-- ---- the calls: times in nanoseconds, and the pool that is owed
+
+abbrev pub keyA : InstanceKey
+keyA = keyOfHashes 1 0
+
+-- two records of key A, each longer than the 28 bytes that the bucket will have left when P1 has to wait
+abbrev pub older : List ℕ
+older = replicate 64 97
+
+abbrev pub newer : List ℕ
+newer = replicate 64 98
+
+abbrev pub calls : List Call
+calls =
+    -- writer 7 registers and gets pacer 0: a full bucket of 1,500 bytes, and 10,000 bytes per second
+    register 0 7 P1
+    -- P2 counts its own records: this one is number 0
+    ∷ handIn 0 0 P2 keyA older owed
+    -- number 1 has the same key, and takes the place of number 0
+    ∷ handIn 0 0 P2 keyA newer owed
+    -- P1's first is number 2: the two P2 hand-ins used up numbers 0 and 1 of the pacer's own
+    ∷ handIn 0 0 P1 noKey (replicate 1472 1) owed
+    -- number 3 pushes out number 2, since P1 holds at most one record
+    ∷ handIn 0 0 P1 noKey (replicate 1472 1) owed
+    -- number 3 goes, and the bucket has 28 bytes left
+    ∷ send 0 0 owed
+    -- number 4 has 128 bytes
+    ∷ handIn 0 0 P1 noKey (replicate 128 1) owed
+    -- neither class's first is paid for, and the wait is for the 100 bytes that number 4 lacks: 10 ms
+    ∷ send 0 0 owed
+    -- a nanosecond after the wait is over, number 4 goes
+    ∷ send 10000001 0 owed
+    ∷ []
+
+-- ---- what is told
+
+-- a call's number, and the values of a send attempt: class, sequence and length of a sent record, or the nanoseconds of a wait
+pub record Seen : Type 0 where
+  pub answer : ℕ
+  pub values : List ℕ
+
+abbrev pub seen : ℕ → List ℕ → Seen
+seen answer values = record { answer = answer; values = values }
+
+abbrev pub valuesOf : Reply → List ℕ
+valuesOf nothing = []
+valuesOf (signal b) = []
+valuesOf unchanged = []
+valuesOf (updates rows) = []
+valuesOf (action a) = actionValues a
+
+abbrev pub seenOf : Answer → Seen
+seenOf x = seen (x .answer) (valuesOf (x .reply))
+
+abbrev pub expected : List Seen
+expected =
+    seen 0 []
+    ∷ seen 0 []
+    ∷ seen 0 []
+    ∷ seen 0 []
+    ∷ seen 0 []
+    -- class P1, number 3, 1,472 bytes
+    ∷ seen 0 (1 ∷ 3 ∷ 1472 ∷ [])
+    ∷ seen 0 []
+    -- 10 ms
+    ∷ seen 0 (10000000 ∷ [])
+    -- class P1, number 4, 128 bytes
+    ∷ seen 0 (1 ∷ 4 ∷ 128 ∷ [])
+    ∷ []
+
+-- ---- the book
+
+-- a class's list in the book, by sequence numbers alone
+pub record Lists : Type 0 where
+  pub accepted : List ℕ
+  pub waiting : List ℕ
+  pub sent : List ℕ
+  pub pushedOut : List ℕ
+  pub replaced : List ℕ
+
+abbrev pub numbersOf : List Held → List ℕ
+numbersOf xs = map (λ (x : Held). x .entry .sequence) xs
+
+abbrev pub listsOf : Queue → Lists
+listsOf q =
+    record {
+      accepted = numbersOf (q .accepted);
+      waiting = numbersOf (q .waiting);
+      sent = numbersOf (q .sent);
+      pushedOut = numbersOf (q .pushedOut);
+      replaced = numbersOf (q .replaced);
+    }
+
+-- nothing was handed in to P0
+abbrev pub expectedP0 : Lists
+expectedP0 = record { accepted = []; waiting = []; sent = []; pushedOut = []; replaced = [] }
+
+abbrev pub expectedP1 : Lists
+expectedP1 =
+    record { accepted = 2 ∷ 3 ∷ 4 ∷ []; waiting = []; sent = 3 ∷ 4 ∷ []; pushedOut = 2 ∷ []; replaced = [] }
+
+abbrev pub expectedP2 : Lists
+expectedP2 = record { accepted = 0 ∷ 1 ∷ []; waiting = 1 ∷ []; sent = []; pushedOut = []; replaced = 0 ∷ [] }
+
+-- the page of pacer 0 after the calls
+abbrev pub page : Page
+page = keeps (limitsOf settings) start calls .book 0
+
+-- ---- the claim
+
+-- each call's answer, each class's lists, and the bytes of the one record that waits in P2: the newer one's
+abbrev pub Worked : Type 0
+Worked =
+    (map seenOf (answers (start .state) calls) ≡ expected)
+    × (listsOf (page .queues P0) ≡ expectedP0)
+    × (listsOf (page .queues P1) ≡ expectedP1)
+    × (listsOf (page .queues P2) ≡ expectedP2)
+    × (map (λ (x : Held). x .bytes) (page .queues P2 .waiting) ≡ newer ∷ [])
