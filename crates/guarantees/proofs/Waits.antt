@@ -236,16 +236,17 @@ keeps-run m k [] = refl
 keeps-run m k (x ∷ xs) = keeps-run m (keep m k x) xs
 
 pub waits : (m : Limits) (start : Kept) (calls : List Call) → SomePool m start → Ticking (start .state .station) → theorem.Waits m start calls
-waits m start calls ok tick i before time lent between later lent′ rest wait whole =
+waits m start calls ok tick i before time lent between later lent′ rest wait whole tells down taken past =
     subst
     (λ (s : State).
     answered s (send time i lent) .reply ≡ action (RateLimited wait)
     → AllTurnedDown (after s (send time i lent)) between
     → answered (run (after s (send time i lent)) between) (send later i lent′) .answer ≡ accepted
-    → time + wait + 1 ≤ later
     → HeadGoes (keeps m start before .book i) (bucketIn (after s (send time i lent)) i) wait
     (answered (run (after s (send time i lent)) between) (send later i lent′) .reply))
     (keeps-run m start before)
-    (waits-here m (keeps m start before) (kept-to m (λ (j : Kept) (ys : List Call). SomePool m j) (some-step m) start before [] ok)
+    (λ e d a.
+    waits-here m (keeps m start before) (kept-to m (λ (j : Kept) (ys : List Call). SomePool m j) (some-step m) start before [] ok)
     (subst (λ (x : State). Ticking (x .station)) (sym (keeps-run m start before)) (ticking-run (start .state) tick before))
-    i time lent between later lent′ wait)
+    i time lent between later lent′ wait e d a (omega (arith, past)))
+    tells down taken
