@@ -9,6 +9,7 @@ use Rattle.config.specs.Ledger.{timeCheck}
 use Rattle.config.specs.Refusal.{Check, when, answerOf, settingsInvalid, settingsBeyond}
 use Rattle.config.specs.declared.config.ConfigAnswer.{ConfigAnswer}
 use Rattle.config.specs.declared.config.CongestionConfig.{CongestionConfig}
+use Rattle.config.specs.declared.config.EcnMode.{EcnMode}
 use Rattle.config.specs.declared.config.EcnMode.the-variants.{Off}
 use Rattle.config.specs.declared.config.Priority.{Priority}
 use Rattle.config.specs.declared.config.Priority.the-variants.{P0, P1, P2}
@@ -56,36 +57,41 @@ defaults =
       «ecn_mode» = Off;
     }
 
+-- settings with another `enabled`, other queue limits and another ECN mode
+abbrev pub settingsWith : CongestionConfig → Bool → ℕ → ℕ → ℕ → EcnMode → CongestionConfig
+settingsWith c enabled p0 p1 p2 mode =
+    record {
+      enabled = enabled;
+      «min_rate_bps» = c .«min_rate_bps»;
+      «max_rate_bps» = c .«max_rate_bps»;
+      «ai_step_bps» = c .«ai_step_bps»;
+      «md_factor_hard» = c .«md_factor_hard»;
+      «md_factor_soft» = c .«md_factor_soft»;
+      «stable_window_ms» = c .«stable_window_ms»;
+      «cooldown_ms» = c .«cooldown_ms»;
+      «score_tick_ms» = c .«score_tick_ms»;
+      «score_decay» = c .«score_decay»;
+      «decrease_threshold» = c .«decrease_threshold»;
+      «increase_threshold» = c .«increase_threshold»;
+      «hysteresis_band» = c .«hysteresis_band»;
+      «eagain_is_hard» = c .«eagain_is_hard»;
+      «eagain_impulse» = c .«eagain_impulse»;
+      «rtt_impulse» = c .«rtt_impulse»;
+      «nack_rate_threshold» = c .«nack_rate_threshold»;
+      «nack_impulse» = c .«nack_impulse»;
+      «repair_budget_ratio» = c .«repair_budget_ratio»;
+      «max_queue_p0» = p0;
+      «max_queue_p1» = p1;
+      «max_queue_p2» = p2;
+      «p0_min_share» = c .«p0_min_share»;
+      «p0_min_bps» = c .«p0_min_bps»;
+      «ecn_mode» = mode;
+    }
+
 -- the Rust's `CongestionConfig::disabled()`
 abbrev pub withoutControl : CongestionConfig
 withoutControl =
-    record {
-      enabled = false;
-      «min_rate_bps» = defaults .«min_rate_bps»;
-      «max_rate_bps» = defaults .«max_rate_bps»;
-      «ai_step_bps» = defaults .«ai_step_bps»;
-      «md_factor_hard» = defaults .«md_factor_hard»;
-      «md_factor_soft» = defaults .«md_factor_soft»;
-      «stable_window_ms» = defaults .«stable_window_ms»;
-      «cooldown_ms» = defaults .«cooldown_ms»;
-      «score_tick_ms» = defaults .«score_tick_ms»;
-      «score_decay» = defaults .«score_decay»;
-      «decrease_threshold» = defaults .«decrease_threshold»;
-      «increase_threshold» = defaults .«increase_threshold»;
-      «hysteresis_band» = defaults .«hysteresis_band»;
-      «eagain_is_hard» = defaults .«eagain_is_hard»;
-      «eagain_impulse» = defaults .«eagain_impulse»;
-      «rtt_impulse» = defaults .«rtt_impulse»;
-      «nack_rate_threshold» = defaults .«nack_rate_threshold»;
-      «nack_impulse» = defaults .«nack_impulse»;
-      «repair_budget_ratio» = defaults .«repair_budget_ratio»;
-      «max_queue_p0» = defaults .«max_queue_p0»;
-      «max_queue_p1» = defaults .«max_queue_p1»;
-      «max_queue_p2» = defaults .«max_queue_p2»;
-      «p0_min_share» = defaults .«p0_min_share»;
-      «p0_min_bps» = defaults .«p0_min_bps»;
-      «ecn_mode» = defaults .«ecn_mode»;
-    }
+    settingsWith defaults false (defaults .«max_queue_p0») (defaults .«max_queue_p1») (defaults .«max_queue_p2») (defaults .«ecn_mode»)
 
 -- outside (0, 1], (0, 1) and [0, 1]; every test is false at a NaN, which so passes
 unfoldable pub notInOpenClosed : Float → Bool

@@ -4,7 +4,7 @@ use Prim.Native.Nat.{ℕ}
 use mathlib.Core.List.{List, [], _∷_, map}
 use mathlib.Core.Path.{_≡_}
 use lib.ListN.{replicate}
-use Rattle.config.specs.Config.{defaults}
+use Rattle.config.specs.Config.{defaults, settingsWith}
 use Rattle.config.specs.declared.config.CongestionConfig.{CongestionConfig}
 use Rattle.config.specs.declared.config.Priority.the-variants.{P0, P1, P2}
 use Rattle.pacing.specs.Entries.{keyOfHashes, noKey}
@@ -21,34 +21,7 @@ use Rattle.guarantees.specs.Theorem.{Kept, keeps, started}
 
 -- the default settings but for the queue limits: one record in P0, one in P1, two in P2
 abbrev pub settings : CongestionConfig
-settings =
-    record {
-      enabled = defaults .enabled;
-      «min_rate_bps» = defaults .«min_rate_bps»;
-      «max_rate_bps» = defaults .«max_rate_bps»;
-      «ai_step_bps» = defaults .«ai_step_bps»;
-      «md_factor_hard» = defaults .«md_factor_hard»;
-      «md_factor_soft» = defaults .«md_factor_soft»;
-      «stable_window_ms» = defaults .«stable_window_ms»;
-      «cooldown_ms» = defaults .«cooldown_ms»;
-      «score_tick_ms» = defaults .«score_tick_ms»;
-      «score_decay» = defaults .«score_decay»;
-      «decrease_threshold» = defaults .«decrease_threshold»;
-      «increase_threshold» = defaults .«increase_threshold»;
-      «hysteresis_band» = defaults .«hysteresis_band»;
-      «eagain_is_hard» = defaults .«eagain_is_hard»;
-      «eagain_impulse» = defaults .«eagain_impulse»;
-      «rtt_impulse» = defaults .«rtt_impulse»;
-      «nack_rate_threshold» = defaults .«nack_rate_threshold»;
-      «nack_impulse» = defaults .«nack_impulse»;
-      «repair_budget_ratio» = defaults .«repair_budget_ratio»;
-      «max_queue_p0» = 1;
-      «max_queue_p1» = 1;
-      «max_queue_p2» = 2;
-      «p0_min_share» = defaults .«p0_min_share»;
-      «p0_min_bps» = defaults .«p0_min_bps»;
-      «ecn_mode» = defaults .«ecn_mode»;
-    }
+settings = settingsWith defaults (defaults .enabled) 1 1 2 (defaults .«ecn_mode»)
 
 -- a pool of zeros, just long enough: 23,552 bytes, "4 × 1,472 × the sum of the three limits" (document 01)
 abbrev pub pool : List ℕ
