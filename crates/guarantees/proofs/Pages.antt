@@ -26,7 +26,7 @@ use Rattle.station.specs.Station.{pacerIn, limitsIn, slotsNeeded, shownBytes, a
 use Rattle.station.specs.declared.station.Station.{Station}
 use Rattle.guarantees.specs.Book.{Page, Book, none, sentIn, noted}
 use Rattle.guarantees.specs.Calls.{Lent, owed, instead, Call, register, eagain, tos, nacks, rtt, tick, handIn, send, setRate, Reply, action, Outcome, outcome, lentLength, lentIn, inPlace, written, shownBy, State, answered, after, run}
-use Rattle.guarantees.specs.Theorem.{Kept, keep, keeps, Always, Each, enqueuedOf, sentOf, droppedOf, coalescedOf, metricsOf, queued, Matched, Fated, FirstIs, ActionShows, ReplyShows, Sends, Shown, HoldsBytes, FirstBytes, ShownBytes, OwedOrShort, Owed, Fates}
+use Rattle.guarantees.specs.Theorem.{Kept, keep, keeps, Always, Each, enqueuedOf, sentOf, droppedOf, coalescedOf, metricsOf, ringIn, queued, Matched, Fated, FirstIs, ActionShows, ReplyShows, Sends, Shown, HoldsBytes, FirstBytes, ShownBytes, OwedOrShort, Owed, Fates}
 use Rattle.guarantees.proofs.Changes.{Cases, by-case, by-send}
 use Rattle.guarantees.proofs.Fates.{one-fate}
 use Rattle.guarantees.proofs.HandIns.{pageView, count-is, tries-out}
@@ -67,6 +67,16 @@ module _ (m : Limits) (g : List ℕ) (s : Station) (b : Book) (ok : Sound m g s 
   replaced-is P1 = sym (tally .replaced-p1)
   replaced-is P2 = tally .replaced-p2
 
+  waiting-is : (c : Priority) → ringIn s i c ≡ length (b i .queues c .waiting)
+  waiting-is c = count-is m i (partsOf (pacerIn s i) (s .words) g) (b i) (ok .pages i lo) noKey c
+
+  own-sum :
+      (c : Priority)
+      → enqueuedOf (metricsOf s i) c ≡ sentOf (metricsOf s i) c + droppedOf (metricsOf s i) c + coalescedOf (metricsOf s i) c + ringIn s i c
+  own-sum c =
+      omega
+      (arith, one-fate (b i .queues c) _ (ok .balanced i .balanced c) .sum, accepted-is c, sent-is c, pushed-out-is c, replaced-is c, waiting-is c)
+
   matched : (c : Priority) → Matched s i c (b i .queues c)
   matched c =
       record {
@@ -75,7 +85,8 @@ module _ (m : Limits) (g : List ℕ) (s : Station) (b : Book) (ok : Sound m g s 
         sent-is = sent-is c;
         pushed-out-is = pushed-out-is c;
         replaced-is = replaced-is c;
-        waiting-is = count-is m i (partsOf (pacerIn s i) (s .words) g) (b i) (ok .pages i lo) noKey c;
+        waiting-is = waiting-is c;
+        own-sum = own-sum c;
       }
 
 pub fated : (m : Limits) (g : List ℕ) (k : Kept) → Sound m g (k .state .station) (k .book) → Fated k

@@ -123,6 +123,10 @@ pub record Matched (s : Station) (i : ℕ) (c : Priority) (q : Queue) : Type 0 w
   pub pushed-out-is : droppedOf (metricsOf s i) c ≡ length (q .pushedOut)
   pub replaced-is : coalescedOf (metricsOf s i) c ≡ length (q .replaced)
   pub waiting-is : ringIn s i c ≡ length (q .waiting)
+  -- accepted = sent + pushed out + replaced + waiting, by the station's own counts
+  pub own-sum :
+      enqueuedOf (metricsOf s i) c
+      ≡ sentOf (metricsOf s i) c + droppedOf (metricsOf s i) c + coalescedOf (metricsOf s i) c + ringIn s i c
 
 -- the station matches the book, and every record has its fate; a pacer that nobody registered has an empty page
 pub record Fated (k : Kept) : Type 0 where
