@@ -1,19 +1,19 @@
 -- One pacer and its page of the book, over a hand-in and a send attempt: the fate that the pacer gives a record is the book's, the queues
 -- hold what the page lists, and other pacers' records stay. Assumes nothing.
-use Prim.Native.Nat.{ℕ, zero, suc, _+_, _*_, _≤_, _<_, min, max}
+use Prim.Native.Nat.{ℕ, _+_, _*_, _≤_, _<_, max}
 use mathlib.Core.Bool.{Bool, true, false, cond, true≢false}
-use mathlib.Core.List.{List, [], _∷_, _++_}
+use mathlib.Core.List.{List}
 use mathlib.Core.Logic.{_≢_}
 use mathlib.Core.Path.{_≡_, refl, sym, ap, ap₂, subst, _∙_}
 use native.Mathlib.Omega.{arith}
-use lib.Dec.{eqb, ltb}
-use lib.ListN.{length, drop}
+use lib.Dec.{ltb}
+use lib.ListN.{length}
 use Rattle.config.specs.declared.config.Priority.{Priority}
 use Rattle.config.specs.declared.config.Priority.the-variants.{P0, P1, P2}
 use Rattle.numeric.proofs.Choice.{by-test}
 use Rattle.pacing.proofs.Counts.{look-handed-other, length-handed}
 use Rattle.pacing.proofs.Records.{Matches, Stored, held-noted, held-other, length-filled, hand-in-matches, send-matches}
-use Rattle.pacing.proofs.Rings.{Sound, contents-same, length-contents, next-slot-below, slot-below, first-placeIn}
+use Rattle.pacing.proofs.Rings.{contents-same, length-contents, next-slot-below, slot-below, first-placeIn}
 use Rattle.pacing.proofs.Slots.{Noted, noted-hand-in, look-noted, queueNumber, class-below}
 use Rattle.pacing.specs.Coalescing.{afterNext, found, inserted}
 use Rattle.pacing.specs.Entries.{queueAt, entryOf, look, entered, mostOf}
@@ -28,7 +28,7 @@ use Rattle.pacing.specs.declared.coalescing.InstanceKey.{InstanceKey}
 use Rattle.pacing.specs.declared.entries.Entry.{Entry}
 use Rattle.pacing.specs.declared.pool.Limits.{Limits}
 use Rattle.pacing.specs.declared.ring.Fate.{Fate}
-use Rattle.pacing.specs.declared.ring.Fate.the-variants.{Full, Joined, PushedOut, Replaced}
+use Rattle.pacing.specs.declared.ring.Fate.the-variants.{Joined, PushedOut}
 use Rattle.pacing.specs.declared.ring.Kept.{Kept}
 use Rattle.pacing.specs.declared.ring.Ring.{Ring}
 use Rattle.pacing.specs.declared.writer_pacer.Attempt.{Attempt}

@@ -1,7 +1,7 @@
 -- The book (document 01, "What the port owes on paper"): what became of each accepted record, from the calls' arguments, their answer
 -- numbers and the class of each `sent` alone. Definitions only.
-use Prim.Native.Nat.{ℕ, zero, suc, _+_}
-use mathlib.Core.Bool.{Bool, true, false, cond}
+use Prim.Native.Nat.{ℕ, _+_}
+use mathlib.Core.Bool.{Bool, cond}
 use mathlib.Core.List.{List, [], _∷_, _++_}
 use lib.Dec.{ltb, eqb}
 use lib.ListN.{length, set, take, drop}
@@ -10,7 +10,7 @@ use Rattle.config.specs.Refusal.{accepted, queueFull}
 use Rattle.config.specs.declared.config.Priority.{Priority}
 use Rattle.config.specs.declared.config.Priority.the-variants.{P0, P1, P2}
 use Rattle.pacing.specs.Entries.{entryOf, shaped}
-use Rattle.pacing.specs.Records.{Held, heldOf, keyed, limitIn}
+use Rattle.pacing.specs.Records.{Held, heldOf, keyed}
 use Rattle.pacing.specs.Window.{placeIn}
 use Rattle.pacing.specs.declared.coalescing.InstanceKey.{InstanceKey}
 use Rattle.pacing.specs.declared.pool.Limits.{Limits}

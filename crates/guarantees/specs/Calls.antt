@@ -1,7 +1,7 @@
 -- Lists of calls on a station: the calls with all their arguments, what each answers, shows and leaves, and runs of lists. Definitions only.
 use Prim.Native.Nat.{ℕ}
-use mathlib.Core.Bool.{Bool, true, false, cond}
-use mathlib.Core.List.{List, [], _∷_, map}
+use mathlib.Core.Bool.{Bool, cond}
+use mathlib.Core.List.{List, [], _∷_}
 use lib.Dec.{eqb}
 use lib.Ieee.{Float}
 use lib.ListN.{length}
@@ -9,7 +9,6 @@ use Rattle.config.specs.declared.config.Priority.{Priority}
 use Rattle.pacing.specs.Pool.{isShort}
 use Rattle.pacing.specs.declared.coalescing.InstanceKey.{InstanceKey}
 use Rattle.pacing.specs.declared.writer_pacer.SendAction.{SendAction}
-use Rattle.pacing.specs.declared.writer_pacer.SendAction.the-variants.{Empty}
 use Rattle.control.specs.BudgetAllocator.{writersOf}
 use Rattle.control.specs.declared.budget_allocator.WriterInfo.{WriterInfo}
 use Rattle.station.specs.Station.{limitsIn, slotsNeeded, registeredStation, eagainStation, nacksStation, tosStation, rttStation, tickedStation, ratedStation, handedStation, poolHanded, sentStation, shownBytes}

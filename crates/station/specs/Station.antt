@@ -14,10 +14,8 @@ use Rattle.config.specs.declared.config.CongestionConfig.{CongestionConfig}
 use Rattle.config.specs.declared.config.Priority.{Priority}
 use Rattle.config.specs.declared.ledger.Ledger.{Ledger}
 use Rattle.numeric.specs.Search.{first}
-use Rattle.pacing.specs.Coalescing.{newQueue}
 use Rattle.pacing.specs.Pool.{slotsOf}
-use Rattle.pacing.specs.Ring.{fateNumber, newRing}
-use Rattle.pacing.specs.TokenBucket as bucket
+use Rattle.pacing.specs.Ring.{fateNumber}
 use Rattle.pacing.specs.WriterPacer.{pacerConfigOf, made, rateSet, enqueue, attemptBy, actionNumber, sendNoted, handInWritten, handInStored, sentBytes}
 use Rattle.pacing.specs.WriterPacerAlone.{zeroPacer}
 use Rattle.pacing.specs.WriterPacerAlone as alone
