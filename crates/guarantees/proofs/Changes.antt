@@ -1,35 +1,38 @@
 -- What a call does to a station, in six cases: it is turned down, steers the controller alone, gives new budgets, registers a writer,
 -- hands in a record, or attempts to send one. Assumes nothing.
-use Prim.Native.Nat.{ℕ, _+_, _*_, _^_, _≤_, _<_}
-use mathlib.Core.Bool.{Bool, true, false, cond, true≢false}
-use mathlib.Core.List.{List, [], _∷_}
+use Prim.Native.Nat.{ℕ, _^_, _≤_, _<_}
+use mathlib.Core.Bool.{true, false, cond, true≢false}
+use mathlib.Core.List.{List}
 use mathlib.Core.Logic.{_≢_}
 use mathlib.Core.Path.{_≡_, refl, sym, ap, subst, _∙_}
 use native.Mathlib.Omega.{arith}
-use borrow.Author.Tests.{eqb-true, eqb-false, ltb-true, ltb-false, leb-true, leb-false}
+use borrow.Author.Tests.{eqb-true, eqb-false, ltb-false, leb-false}
 use lib.Dec.{ltb, leb, eqb}
 use lib.Ieee.{Float}
 use lib.ListN.{length}
 use Rattle.config.proofs.Refusals.{NoneOf, none-where-accepted, answer-applies}
 use Rattle.config.specs.Ledger.{timedChecks, rateChecks}
-use Rattle.config.specs.Refusal.{Check, when, applies, order, answerOf}
+use Rattle.config.specs.Refusal.{Check, applies, order, answerOf}
 use Rattle.config.specs.declared.config.Priority.{Priority}
 use Rattle.numeric.proofs.Choice.{by-test}
-use Rattle.pacing.specs.Pool.{bytesOf, isShort}
+use Rattle.pacing.specs.Pool.{isShort}
 use Rattle.pacing.specs.WriterPacer.{actionNumber, handInStored}
 use Rattle.pacing.specs.declared.coalescing.InstanceKey.{InstanceKey}
 use Rattle.pacing.specs.declared.writer_pacer.SendAction.{SendAction}
 use Rattle.pacing.specs.declared.writer_pacer.SendAction.the-variants.{Send, Empty, RateLimited}
-use Rattle.control.specs.Controller.{controllerTicked, controllerSet}
+use Rattle.signals.specs.RttEstimator.{anyInflated}
+use Rattle.control.specs.BudgetAllocator.{reallocated}
+use Rattle.control.specs.Controller.{sampled, tickedWith, coreTicked, controllerTicked, controllerSet}
 use Rattle.control.specs.declared.controller.CongestionController.{CongestionController}
 use Rattle.control.specs.declared.controller.ControllerTicked.{ControllerTicked}
+use Rattle.control.specs.declared.controller.CoreTicked.{CoreTicked}
 use Rattle.station.specs.Station.{turnedDown, leftBy, answerWith, registerChecks, registerLeaves, registeredStation, steered, eagainStation, nacksStation, tosStation, rttChecks, rttStation, allotted, tickLeaves, tickedStation, ratedStation, limitsIn, slotsNeeded, handInChecks, enqueuedIn, handInLeaves, handedStation, poolHanded, sendChecks, attemptIn, sendLeaves, sentStation}
 use Rattle.station.specs.declared.station.Station.{Station}
 use Rattle.station.specs.declared.station.StationAnswer.{StationAnswer}
 use Rattle.station.specs.declared.station.StationSent.{StationSent}
 use Rattle.guarantees.specs.Book.{Book, Sent, none, sentIn, noted}
-use Rattle.guarantees.specs.Calls.{Lent, owed, Call, register, eagain, tos, nacks, rtt, tick, handIn, send, setRate, Reply, nothing, signal, unchanged, updates, action, Outcome, outcomeOf, plain, signals, allots, attempts, rowsOf, lentLength, lentIn, outcome, written, State, answered}
-use Rattle.guarantees.specs.Theorem.{Sends, isUpdates, sets, paidBy}
+use Rattle.guarantees.specs.Calls.{Lent, owed, Call, register, eagain, tos, nacks, rtt, tick, handIn, send, setRate, Reply, nothing, signal, unchanged, updates, action, Outcome, outcomeOf, plain, signals, allots, attempts, rowsOf, lentLength, lentIn, outcome, written}
+use Rattle.guarantees.specs.Theorem.{isUpdates, paidBy}
 use Rattle.pacing.specs.declared.pool.Limits.{Limits}
 
 -- ---- calls and replies that concern no record
@@ -101,8 +104,13 @@ not-full checks h e =
 pub record Cases (s : Station) (n : ℕ) (P : Call → Outcome → Type 0) : Type 0 where
   pub turned-down :
       (x : Call) (answer : ℕ) → answer ≢ 0 → answer ≢ 12 → ((p : List ℕ) → written s n x p ≡ p) → P x (outcomeOf answer nothing s)
-  pub steers : (x : Call) (time : ℕ) (reply : Reply) (c : CongestionController) → Quiet x → Silent reply → Timed s time → P x (outcomeOf 0 reply (steered s time c))
-  pub allots : (x : Call) (time : ℕ) (c : CongestionController) → Quiet x → Timed s time → P x (outcomeOf 0 (updates (rowsOf (allotted s time c))) (allotted s time c))
+  pub steers :
+      (x : Call) (time : ℕ) (reply : Reply) (c : CongestionController) → c .allocator ≡ s .controller .allocator → Quiet x → Silent reply → Timed s time
+      → P x (outcomeOf 0 reply (steered s time c))
+  pub allots :
+      (x : Call) (time : ℕ) (c : CongestionController) (rate : ℕ)
+      → c .allocator ≡ reallocated (s .controller .allocator) (s .config .controller .allocation) rate → Quiet x → Timed s time
+      → P x (outcomeOf 0 (updates (rowsOf (allotted s time c))) (allotted s time c))
   pub registers : (time id : ℕ) (class : Priority) → Timed s time → s .roster .count < 4 → P (register time id class) (outcomeOf 0 nothing (registerLeaves s time id class))
   pub hands :
       (time i : ℕ) (c : Priority) (key : InstanceKey) (bytes : List ℕ) (lent : Lent) → Timed s time → i < s .roster .count → length bytes ≤ 1472
@@ -175,34 +183,42 @@ module _ (s : Station) (n : ℕ) (P : Call → Outcome → Type 0) (cases : Case
   passed : (time : ℕ) → NoneOf order (timedChecks (s .ledger) time) → Timed s time
   passed time h = timed-by s time (timedChecks (s .ledger) time) refl refl refl h
 
-  ticks : (time : ℕ) (t : ControllerTicked) → Timed s time → P (tick time) (allots (tickLeaves s time t))
-  ticks time t h =
-      by-test (λ (r : StationAnswer). P (tick time) (allots r)) (t .changed) (λ e. cases .allots (tick time) time (t .controller) (quiet-tick time) h)
-      (λ e. cases .steers (tick time) time unchanged (t .controller) (quiet-tick time) (record { sends-none = refl; no-updates = refl }) h)
+  ticks : (time : ℕ) (k : CoreTicked) → Timed s time → P (tick time) (allots (tickLeaves s time (tickedWith (s .controller) (s .config .controller) k)))
+  ticks time k h =
+      by-test (λ (t : ControllerTicked). P (tick time) (allots (tickLeaves s time t))) (k .changed)
+      (λ e. cases .allots (tick time) time _ (k .core .«rate_controller» .«current_rate») refl (quiet-tick time) h)
+      (λ e. cases .steers (tick time) time unchanged _ refl (quiet-tick time) (record { sends-none = refl; no-updates = refl }) h)
+
+  -- a sample leaves the allocator
+  sample-leaves :
+      (time peer : ℕ) (sample : Float) → sampled (s .controller) (s .config .controller) time peer sample .allocator ≡ s .controller .allocator
+  unfolding sampled
+  sample-leaves time peer sample =
+      by-test (λ (c : CongestionController). c .allocator ≡ s .controller .allocator) (s .config .controller .enabled) (λ e. refl) (λ e. refl)
 
   -- every call is one of the cases
   pub by-case : (x : Call) → P x (outcome s n x)
-  unfolding outcome written poolHanded registeredStation eagainStation nacksStation tosStation rttStation tickedStation ratedStation handedStation
+  unfolding outcome written poolHanded registeredStation eagainStation nacksStation tosStation rttStation tickedStation ratedStation handedStation controllerTicked controllerSet
   by-case (register time id class) =
       by-checks (register time id class) plain (registerChecks s time id) (answerWith 0 false (registerLeaves s time id class)) refl plain-down (λ e p. refl)
       (λ e h. cases .registers time id class (timed-by s time (registerChecks s time id) refl refl refl h) (leb-false _ _ (h .1 .1 .1 .1 .1 .1 .1 .1 .1 .1 .1 .1 .1 .0)))
   by-case (eagain time) =
       by-checks (eagain time) plain (timedChecks (s .ledger) time) _ refl plain-down (λ e p. refl)
-      (λ e h. cases .steers (eagain time) time nothing _ (quiet-eagain time) (record { sends-none = refl; no-updates = refl }) (passed time h))
+      (λ e h. cases .steers (eagain time) time nothing _ refl (quiet-eagain time) (record { sends-none = refl; no-updates = refl }) (passed time h))
   by-case (tos time byte) =
       by-checks (tos time byte) signals (timedChecks (s .ledger) time) _ refl signals-down (λ e p. refl)
-      (λ e h. cases .steers (tos time byte) time (signal _) _ (quiet-tos time byte) (record { sends-none = refl; no-updates = refl }) (passed time h))
+      (λ e h. cases .steers (tos time byte) time (signal _) _ refl (quiet-tos time byte) (record { sends-none = refl; no-updates = refl }) (passed time h))
   by-case (nacks time count) =
       by-checks (nacks time count) plain (timedChecks (s .ledger) time) _ refl plain-down (λ e p. refl)
-      (λ e h. cases .steers (nacks time count) time nothing _ (quiet-nacks time count) (record { sends-none = refl; no-updates = refl }) (passed time h))
+      (λ e h. cases .steers (nacks time count) time nothing _ refl (quiet-nacks time count) (record { sends-none = refl; no-updates = refl }) (passed time h))
   by-case (rtt time peer sample) =
       by-checks (rtt time peer sample) plain (rttChecks s time peer sample) _ refl plain-down (λ e p. refl)
       (λ e h.
-      cases .steers (rtt time peer sample) time nothing _ (quiet-rtt time peer sample) (record { sends-none = refl; no-updates = refl })
+      cases .steers (rtt time peer sample) time nothing _ (sample-leaves time peer sample) (quiet-rtt time peer sample) (record { sends-none = refl; no-updates = refl })
       (timed-by s time (rttChecks s time peer sample) refl refl refl h))
   by-case (tick time) =
       by-checks (tick time) allots (timedChecks (s .ledger) time) (tickLeaves s time (controllerTicked (s .controller) (s .config .controller) time)) refl allots-down (λ e p. refl)
-      (λ e h. ticks time (controllerTicked (s .controller) (s .config .controller) time) (passed time h))
+      (λ e h. ticks time (coreTicked (s .controller .core) (s .config .controller) time (anyInflated (s .controller .tracker))) (passed time h))
   by-case (handIn time i c key bytes lent) =
       by-checks (handIn time i c key bytes lent) plain (handInChecks s (lentLength n lent) time i (length bytes)) _ refl plain-down (λ e p. rw e)
       (λ e h.
@@ -214,5 +230,5 @@ module _ (s : Station) (n : ℕ) (P : Call → Outcome → Type 0) (cases : Case
       by-checks (setRate time rate) allots (rateChecks (s .ledger) time rate)
       (answerWith 0 true (allotted s time (controllerSet (s .controller) (s .config .controller) time rate))) refl allots-down (λ e p. refl)
       (λ e h.
-      cases .allots (setRate time rate) time (controllerSet (s .controller) (s .config .controller) time rate) (quiet-rate time rate)
+      cases .allots (setRate time rate) time (controllerSet (s .controller) (s .config .controller) time rate) rate refl (quiet-rate time rate)
       (timed-by s time (rateChecks (s .ledger) time rate) refl refl refl h))

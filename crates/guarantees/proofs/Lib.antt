@@ -10,6 +10,7 @@ pub mod Sound
 pub mod Paces
 pub mod Starts
 pub mod Pages
+pub mod Budgets
 pub mod Waits
 pub mod Theorem
 pub mod Worked

@@ -1,7 +1,7 @@
 -- The buckets of a station after every call: each stays as the settings have it, and what its pacer sends is covered by tokens and time,
 -- from any station on, until its rate is set again. Assumes nothing.
-use Prim.Native.Nat.{ℕ, _+_, _-_, _*_, _≤_, _<_}
-use mathlib.Core.Bool.{Bool, true, false, true≢false, cond}
+use Prim.Native.Nat.{ℕ, _+_, _≤_, _<_}
+use mathlib.Core.Bool.{true, false, true≢false}
 use mathlib.Core.List.{List, [], _∷_, _++_}
 use mathlib.Core.Logic.{_≢_}
 use mathlib.Core.Path.{_≡_, refl, sym, ap, subst, _∙_}
@@ -13,8 +13,7 @@ use lib.ListN.{length}
 use Rattle.config.specs.Refusal.{accepted}
 use Rattle.config.specs.declared.config.Priority.{Priority}
 use Rattle.numeric.proofs.Choice.{by-test}
-use Rattle.pacing.specs.WriterPacer.{handInWritten, attemptBy, sendNoted}
-use Rattle.pacing.specs.declared.coalescing.InstanceKey.{InstanceKey}
+use Rattle.pacing.specs.WriterPacer.{handInWritten, sendNoted}
 use Rattle.pacing.specs.declared.token_bucket.TokenBucket.{TokenBucket}
 use Rattle.pacing.specs.declared.writer_pacer.PacerConfig.{PacerConfig}
 use Rattle.pacing.specs.declared.writer_pacer.PacerCore.{PacerCore}
@@ -25,7 +24,7 @@ use Rattle.station.specs.Station.{writerOf, writerAt, pacerIn, withPacer, joine
 use Rattle.station.specs.declared.station.Roster.{Roster}
 use Rattle.station.specs.declared.station.Station.{Station}
 use Rattle.station.specs.declared.station.Writer.{Writer}
-use Rattle.guarantees.specs.Calls.{Lent, Call, register, eagain, tos, nacks, rtt, tick, handIn, send, setRate, Reply, nothing, action, Outcome, outcome, State, answered, after, run}
+use Rattle.guarantees.specs.Calls.{Lent, Call, register, eagain, tos, nacks, rtt, tick, handIn, send, setRate, nothing, action, Outcome, outcome, State, answered, after, run}
 use Rattle.guarantees.specs.Theorem.{bucketIn, setsBy, sets, Unset, paidAs, paidBy, paid, refillsBy, refills, Allowance}
 use Rattle.guarantees.proofs.Changes.{Timed, Cases, by-case, by-send}
 use Rattle.guarantees.proofs.Rosters.{Seated, pacer-same, pacer-other, count-with, seated-with, joined-new, joined-other, seated-joined, budgeted-at, seated-budgeted}
@@ -123,8 +122,8 @@ module _ (s : Station) (ok : Ticking s) where
       cases =
           record {
             turned-down = λ y answer z t still. ok;
-            steers = λ y time reply c q silent h. ticking-steered time h c;
-            allots = λ y time c q h. ticking-allotted time h c;
+            steers = λ y time reply c same q silent h. ticking-steered time h c;
+            allots = λ y time c rate is q h. ticking-allotted time h c;
             registers = λ time id class h lo. ticking-registered time id class h lo;
             hands = λ time i c key bytes lent h lo short wide puts.
                 ticking-paced time i _ _ h lo
@@ -210,8 +209,8 @@ module _ (i : ℕ) (s : Station) (ok : Ticking s) where
       cases =
           record {
             turned-down = λ y answer z t same e. still (tokensIn s) _ refl (pays-nothing i y);
-            steers = λ y time reply c q silent h e. still (tokensIn s) _ refl (q .pays i reply);
-            allots = λ y time c q h e. absurd (true≢false e);
+            steers = λ y time reply c same q silent h e. still (tokensIn s) _ refl (q .pays i reply);
+            allots = λ y time c rate is q h e. absurd (true≢false e);
             registers = λ time id class h lo e. registered-covers time id class (eqb-false _ _ e);
             hands = λ time j c key bytes lent h lo short wide puts e.
                 handed-covers time j (enqueuedIn s j c key .core) (handInWritten (s .words) j c (enqueuedIn s j c key .kept) (length bytes) key) lo

@@ -1,7 +1,7 @@
 -- A sound station matches its book after every call of a list, and each record sent is the first that its page lists; in the owed pool
 -- the bytes too. Assumes nothing.
-use Prim.Native.Nat.{ℕ, _+_, _*_, _≤_, _<_, max}
-use mathlib.Core.Bool.{Bool, true, false, true≢false, cond}
+use Prim.Native.Nat.{ℕ, _+_, _≤_, _<_, max}
+use mathlib.Core.Bool.{Bool, true, false, true≢false}
 use mathlib.Core.List.{List, [], _∷_, _++_, map}
 use mathlib.Core.Path.{_≡_, refl, sym, ap, subst, _∙_}
 use native.Mathlib.Omega.{arith}
@@ -9,15 +9,13 @@ use borrow.Author.Tests.{ltb-false}
 use lib.ListN.{length, getD, take}
 use Rattle.config.specs.declared.config.Priority.{Priority}
 use Rattle.config.specs.declared.config.Priority.the-variants.{P0, P1, P2}
-use Rattle.pacing.proofs.Records.{Matches}
 use Rattle.pacing.proofs.Rings.{length-contents}
 use Rattle.pacing.proofs.Windows.{window-map}
-use Rattle.pacing.specs.Entries.{queueAt, entryOf, noKey, look}
+use Rattle.pacing.specs.Entries.{entryOf, noKey}
 use Rattle.pacing.specs.Pool.{bytesOf, isShort}
-use Rattle.pacing.specs.Records.{Held, heldOf, held, waiting, Parts, partsOf, Shows}
+use Rattle.pacing.specs.Records.{Held, heldOf, held, waiting, partsOf, Shows}
 use Rattle.pacing.specs.Window.{contents}
 use Rattle.pacing.specs.WriterPacer.{ringOf, sentBytes}
-use Rattle.pacing.specs.declared.entries.Entry.{Entry}
 use Rattle.pacing.specs.declared.pool.Limits.{Limits}
 use Rattle.pacing.specs.declared.ring.Ring.{Ring}
 use Rattle.pacing.specs.declared.writer_pacer.SendAction.{SendAction}
@@ -25,8 +23,8 @@ use Rattle.pacing.specs.declared.writer_pacer.SendAction.the-variants.{Send, Em
 use Rattle.station.specs.Station.{pacerIn, limitsIn, slotsNeeded, shownBytes, attemptIn}
 use Rattle.station.specs.declared.station.Station.{Station}
 use Rattle.guarantees.specs.Book.{Page, Book, none, sentIn, noted}
-use Rattle.guarantees.specs.Calls.{Lent, owed, instead, Call, register, eagain, tos, nacks, rtt, tick, handIn, send, setRate, Reply, action, Outcome, outcome, lentLength, lentIn, inPlace, written, shownBy, State, answered, after, run}
-use Rattle.guarantees.specs.Theorem.{Kept, keep, keeps, Always, Each, enqueuedOf, sentOf, droppedOf, coalescedOf, metricsOf, ringIn, queued, Matched, Fated, FirstIs, ActionShows, ReplyShows, Sends, Shown, HoldsBytes, FirstBytes, ShownBytes, OwedOrShort, Owed, Fates}
+use Rattle.guarantees.specs.Calls.{Lent, owed, instead, Call, register, eagain, tos, nacks, rtt, tick, handIn, send, setRate, action, Outcome, outcome, lentLength, lentIn, inPlace, written, shownBy, answered, after}
+use Rattle.guarantees.specs.Theorem.{Kept, keep, keeps, Always, Each, enqueuedOf, sentOf, droppedOf, coalescedOf, metricsOf, ringIn, queued, Matched, Fated, ActionShows, ReplyShows, Sends, Shown, HoldsBytes, FirstBytes, ShownBytes, OwedOrShort, Owed, Fates}
 use Rattle.guarantees.proofs.Changes.{Cases, by-case, by-send}
 use Rattle.guarantees.proofs.Fates.{one-fate}
 use Rattle.guarantees.proofs.HandIns.{pageView, count-is, tries-out}
@@ -279,8 +277,8 @@ idle-outcome m b s n p x = by-case s n P cases x
     cases =
         record {
           turned-down = λ x answer z t still short. record { pool = still p; book = noted-down m b x answer z t };
-          steers = λ x time reply c q silent h short. record { pool = q .pool s n p; book = q .book m b 0 (sentIn reply) };
-          allots = λ x time c q h short. record { pool = q .pool s n p; book = q .book m b 0 none };
+          steers = λ x time reply c same q silent h short. record { pool = q .pool s n p; book = q .book m b 0 (sentIn reply) };
+          allots = λ x time c rate is q h short. record { pool = q .pool s n p; book = q .book m b 0 none };
           registers = λ time id class h lo short. record { pool = refl; book = refl };
           hands = λ time i c key bytes lent h lo size wide puts short. absurd (true≢false (sym short ∙ wide));
           tries = λ time i lent h lo wide short. absurd (true≢false (sym short ∙ wide));

@@ -1,14 +1,16 @@
 -- The writers of a station, as its calls leave them: who has which place, and what stays in the others. Assumes nothing.
-use Prim.Native.Nat.{ℕ, zero, suc, _+_, _-_, _≤_, _<_, min}
+use Prim.Native.Nat.{ℕ, zero, suc, _+_, _≤_, _<_}
 use mathlib.Core.List.{List, [], _∷_, _++_, map}
 use mathlib.Core.Logic.{_≢_}
-use mathlib.Core.Path.{_≡_, refl, sym, ap, _∙_}
-use native.Mathlib.Nat.{min-eq-left}
+use mathlib.Core.Path.{_≡_, refl, sym, ap, subst, _∙_}
+use native.Mathlib.Decide.{ℕ-discrete}
 use native.Mathlib.Omega.{arith}
-use lib.ListN.{length, getD, set, take, drop, length-set}
+use lib.ListN.{length, getD, take, drop, length-set}
 use lib.Seq.{getD-set-same, getD-set-other}
+use Rattle.numeric.proofs.Choice.{by-test}
 use Rattle.pacing.specs.declared.writer_pacer.PacerConfig.{PacerConfig}
 use Rattle.pacing.specs.declared.writer_pacer.PacerCore.{PacerCore}
+use Rattle.control.specs.BudgetAllocator.{isKnown}
 use Rattle.control.specs.declared.budget_allocator.WriterTable.{WriterTable}
 use Rattle.station.specs.Station.{writerOf, noWriter, writerAt, takenOf, joined, withPacer, budgeted, budgetedAll}
 use Rattle.station.specs.declared.station.Roster.{Roster}
@@ -29,6 +31,17 @@ pacer-same r i p ok h =
 pub pacer-other : (r : Roster) (i : ℕ) (p : PacerCore) (j : ℕ) → j ≢ i → writerAt (withPacer r i p) j ≡ writerAt r j
 unfolding withPacer
 pacer-other r i p j ne = getD-set-other (r .writers) i j (writerOf (writerAt r i .id) p) noWriter ne
+
+-- its writer keeps the id
+pub id-with : (r : Roster) (i : ℕ) (p : PacerCore) (j : ℕ) → Seated r → i < r .count → writerAt (withPacer r i p) j .id ≡ writerAt r j .id
+unfolding withPacer
+id-with r i p j ok h = go (ℕ-discrete j i)
+  where
+    go : Dec (j ≡ i) → writerAt (withPacer r i p) j .id ≡ writerAt r j .id
+    go (yes e) =
+        subst (λ (k : ℕ). writerAt (withPacer r i p) k .id ≡ writerAt r k .id) (sym e)
+        (ap (λ (w : Writer). w .id) (getD-set-same (r .writers) i (writerOf (writerAt r i .id) p) noWriter (omega (arith, ok .places, ok .fits))))
+    go (no ne) = ap (λ (w : Writer). w .id) (pacer-other r i p j ne)
 
 pub count-with : (r : Roster) (i : ℕ) (p : PacerCore) → withPacer r i p .count ≡ r .count
 unfolding withPacer
@@ -69,6 +82,10 @@ length-mapped f [] zero = refl
 length-mapped f [] (suc n) = refl
 length-mapped f (x ∷ l) zero = refl
 length-mapped f (x ∷ l) (suc n) = ap suc (length-mapped f l n)
+
+pub id-budgeted : (c : PacerConfig) (time : ℕ) (t : WriterTable) (w : Writer) → budgeted c time t w .id ≡ w .id
+unfolding budgeted
+id-budgeted c time t w = by-test (λ (x : Writer). x .id ≡ w .id) (isKnown t (w .id)) (λ e. refl) (λ e. refl)
 
 pub budgeted-at :
     (c : PacerConfig) (time : ℕ) (t : WriterTable) (r : Roster) (i : ℕ) → Seated r → i < r .count

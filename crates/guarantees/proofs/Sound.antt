@@ -1,31 +1,30 @@
 -- What holds of a station and its book after every list of calls, and that every call keeps it: the queues hold what the pages list, the
 -- counts are the lists' lengths, and no counter has come near its largest value. Assumes nothing.
-use Prim.Native.Nat.{ℕ, zero, suc, _+_, _*_, _^_, _≤_, _<_, min}
-use mathlib.Core.Bool.{Bool, true, false, cond}
-use mathlib.Core.List.{List, [], _∷_}
+use Prim.Native.Nat.{ℕ, zero, suc, _+_, _*_, _^_, _≤_, _<_}
+use mathlib.Core.Bool.{false, cond}
+use mathlib.Core.List.{List}
 use mathlib.Core.Logic.{_≢_}
-use mathlib.Core.Path.{_≡_, refl, sym, ap, ap₂, subst, _∙_}
+use mathlib.Core.Path.{_≡_, refl, sym, ap, subst, _∙_}
 use native.Mathlib.Decide.{ℕ-discrete}
 use native.Mathlib.Nat.{mul-le-mul-right, suc-mul}
 use native.Mathlib.Omega.{arith}
 use borrow.Author.Tests.{eq-eqb, ne-eqb}
 use lib.Dec.{eqb}
-use lib.ListN.{length, replicate}
+use lib.ListN.{length}
 use Rattle.config.specs.Config.{classNumber}
 use Rattle.config.specs.Ledger.{moved}
 use Rattle.config.specs.declared.config.Priority.{Priority}
 use Rattle.config.specs.declared.config.Priority.the-variants.{P0, P1, P2}
-use Rattle.config.specs.declared.ledger.Ledger.{Ledger}
 use Rattle.numeric.proofs.Choice.{by-test}
 use Rattle.pacing.proofs.Counts.{count-handed, count-handed-other, count-sent, count-sent-other, length-handed, length-sent}
-use Rattle.pacing.proofs.Records.{Matches, Stored, Limited, stays, made-matches, stored-new, getD-zeros, length-zeros}
+use Rattle.pacing.proofs.Records.{Matches, Stored, Limited, stays, made-matches}
 use Rattle.pacing.proofs.Slots.{noted-none, noted-send, class-below}
 use Rattle.pacing.specs.Counts.{onlyAt, fateAdds, handAdds, sendAdds}
 use Rattle.pacing.specs.Entries.{pacerAt, mostOf}
 use Rattle.pacing.specs.Pool.{bytesOf, slotsOf}
 use Rattle.pacing.specs.Records.{limitIn, Parts, partsOf, Shows}
 use Rattle.pacing.specs.Ring.{isFull, fateNumber}
-use Rattle.pacing.specs.WriterPacer.{made, enqueue, attemptBy, rateSet, countIn, handInStored, handInWritten, sendNoted}
+use Rattle.pacing.specs.WriterPacer.{made, rateSet, countIn, handInStored, handInWritten, sendNoted}
 use Rattle.pacing.specs.declared.coalescing.InstanceKey.{InstanceKey}
 use Rattle.pacing.specs.declared.pool.Limits.{Limits}
 use Rattle.pacing.specs.declared.ring.Fate.{Fate}
@@ -33,14 +32,12 @@ use Rattle.pacing.specs.declared.ring.Fate.the-variants.{Full, Joined, PushedOu
 use Rattle.pacing.specs.declared.writer_pacer.Attempt.{Attempt}
 use Rattle.pacing.specs.declared.writer_pacer.Enqueued.{Enqueued}
 use Rattle.pacing.specs.declared.writer_pacer.PacerConfig.{PacerConfig}
-use Rattle.pacing.specs.declared.writer_pacer.PacerCore.{PacerCore}
 use Rattle.pacing.specs.declared.writer_pacer.SendAction.{SendAction}
 use Rattle.pacing.specs.declared.writer_pacer.SendAction.the-variants.{Send, Empty, RateLimited}
 use Rattle.control.specs.BudgetAllocator.{isKnown}
 use Rattle.control.specs.declared.budget_allocator.WriterTable.{WriterTable}
 use Rattle.control.specs.declared.controller.CongestionController.{CongestionController}
-use Rattle.station.specs.Station.{writerOf, writerAt, pacerIn, limitsIn, slotsNeeded, withPacer, joined, budgeted, budgetedAll, steered, allotted, registerLeaves, firstPacer, paced, enqueuedIn, attemptIn}
-use Rattle.station.specs.declared.station.Roster.{Roster}
+use Rattle.station.specs.Station.{writerOf, writerAt, pacerIn, limitsIn, slotsNeeded, joined, budgeted, budgetedAll, steered, allotted, registerLeaves, firstPacer, paced, enqueuedIn, attemptIn}
 use Rattle.station.specs.declared.station.Station.{Station}
 use Rattle.station.specs.declared.station.Writer.{Writer}
 use Rattle.guarantees.specs.Book.{Page, Book, emptyPage, withPage, Sent, none, one, sentAs, sentIn, handedBy, pageAfterSend, noted}
@@ -483,8 +480,8 @@ module _ (m : Limits) (g : List ℕ) (s : Station) (b : Book) (ok : Sound m g s 
       cases =
           record {
             turned-down = λ x answer z t still. rw (still g, noted-down m b x answer z t) ok;
-            steers = λ x time reply c q silent h. rw (q .pool s n g, q .book m b 0 (sentIn reply)) (sound-steered time h c);
-            allots = λ x time c q h. rw (q .pool s n g, q .book m b 0 none) (sound-allotted time h c);
+            steers = λ x time reply c same q silent h. rw (q .pool s n g, q .book m b 0 (sentIn reply)) (sound-steered time h c);
+            allots = λ x time c rate is q h. rw (q .pool s n g, q .book m b 0 none) (sound-allotted time h c);
             registers = λ time id class h lo. unfold written noted in sound-registered time id class h lo;
             hands = λ time i c key bytes lent h lo short wide puts. rw (puts g, limits time i c key bytes) (sound-handed time i c key bytes h lo short lent);
             tries = λ time i lent h lo wide. unfold written in sound-sent time i h lo lent;

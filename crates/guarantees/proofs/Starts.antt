@@ -1,8 +1,8 @@
 -- What settings that make a station promise, and that a station just made matches an empty book. Assumes nothing.
-use Prim.Native.Nat.{ℕ, _*_, _+_, _^_, _≤_, _<_}
+use Prim.Native.Nat.{ℕ, _≤_}
 use mathlib.Core.Bool.{Bool, true, false, true≢false, not, cond, _||_}
-use mathlib.Core.List.{List, [], _∷_}
-use mathlib.Core.Path.{_≡_, refl, sym, ap, subst, _∙_}
+use mathlib.Core.List.{List, []}
+use mathlib.Core.Path.{_≡_, refl}
 use native.Mathlib.Omega.{arith}
 use borrow.Author.Tests.{eqb-true, eqb-false, ltb-false}
 use lib.Dec.{ltb, eqb}
@@ -18,10 +18,12 @@ use Rattle.pacing.specs.Entries.{mostOf}
 use Rattle.pacing.specs.Pool.{bytesOf, limitOf, limitsOf}
 use Rattle.pacing.specs.Records.{limitIn}
 use Rattle.pacing.specs.WriterPacer.{countAt}
-use Rattle.pacing.specs.declared.pool.Limits.{Limits}
+use Rattle.control.proofs.Writers.{in-order}
+use Rattle.control.specs.Controller.{newController}
 use Rattle.station.specs.Station.{slotsNeeded, stationConfigOf, newStation, zeroStation, madeStation, answerWith, turnedDown}
 use Rattle.station.specs.declared.station.StationAnswer.{StationAnswer}
 use Rattle.guarantees.specs.Book.{emptyBook}
+use Rattle.guarantees.proofs.Budgets.{Known}
 use Rattle.guarantees.proofs.Fates.{balanced-empty}
 use Rattle.guarantees.proofs.Paces.{Ticking}
 use Rattle.guarantees.proofs.Sound.{Sound, slots-wide}
@@ -158,4 +160,14 @@ ticking-new c time ok =
       most = ok .most;
       seated = record { places = refl; fits = omega arith };
       buckets = λ i lo. absurd (omega arith);
+    }
+
+pub known-new : (c : CongestionConfig) (time : ℕ) → Known (newStation (stationConfigOf c) time)
+unfolding newController
+known-new c time =
+    record {
+      in-order = in-order [];
+      few = omega arith;
+      seated = record { places = refl; fits = omega arith };
+      has = λ i lo. absurd (omega arith);
     }

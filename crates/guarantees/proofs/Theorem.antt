@@ -12,11 +12,12 @@ use Rattle.station.specs.Station.{slotsNeeded, madeStation}
 use Rattle.station.specs.declared.station.Station.{Station}
 use Rattle.guarantees.specs.Book.{emptyBook}
 use Rattle.guarantees.specs.Theorem.{started, Theorem}
+use Rattle.guarantees.proofs.Budgets.{Known, settings}
 use Rattle.guarantees.proofs.Contents.{contents}
 use Rattle.guarantees.proofs.Paces.{Ticking, allowance}
 use Rattle.guarantees.proofs.Pages.{SomePool, fates}
 use Rattle.guarantees.proofs.Sound.{Sound}
-use Rattle.guarantees.proofs.Starts.{station-is, domain, sound-new, ticking-new}
+use Rattle.guarantees.proofs.Starts.{station-is, domain, sound-new, ticking-new, known-new}
 use Rattle.guarantees.proofs.Waits.{waits}
 
 module _ (c : CongestionConfig) (time : ℕ) (made : madeStation c time .answer ≡ accepted) where
@@ -28,6 +29,9 @@ module _ (c : CongestionConfig) (time : ℕ) (made : madeStation c time .answer 
 
   ticking-made : Ticking (madeStation c time .station)
   ticking-made = subst Ticking (sym (station-is c time made)) (ticking-new c time (domain c time made))
+
+  known-made : Known (madeStation c time .station)
+  known-made = subst Known (sym (station-is c time made)) (known-new c time)
 
   -- whatever pool is lent first, as if over a pool of zeros
   some-made : (pool : List ℕ) → SomePool (limitsOf c) (started c time pool)
@@ -41,7 +45,11 @@ pub theorem : Theorem
 theorem c time pool made calls =
     record {
       fates = fates (limitsOf c) (started c time pool) calls (some-made c time made pool) (λ i d. refl) (sound-made c time made pool);
-      allowance = allowance (started c time pool .state) (ticking-made c time made) calls;
+      allowance =
+          record {
+            settings = settings (limitsOf c) (started c time pool) (known-made c time made) calls;
+            within = allowance (started c time pool .state) (ticking-made c time made) calls;
+          };
       waits = waits (limitsOf c) (started c time pool) calls (some-made c time made pool) (ticking-made c time made);
       contents = contents (started c time pool .state) calls;
     }

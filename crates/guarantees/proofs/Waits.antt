@@ -1,33 +1,32 @@
 -- A wait that was told is kept: where the next accepted call is that pacer's send attempt a nanosecond or more after it, the record for
 -- which it was told goes. Assumes nothing.
-use Prim.Native.Nat.{ℕ, _+_, _*_, _^_, _≤_, _<_}
+use Prim.Native.Nat.{ℕ, _+_, _^_, _≤_, _<_}
 use mathlib.Core.Bool.{Bool, true, false, true≢false}
-use mathlib.Core.List.{List, [], _∷_, _++_}
+use mathlib.Core.List.{List, [], _∷_}
 use mathlib.Core.Logic.{_≢_}
 use mathlib.Core.Path.{_≡_, refl, sym, ap, subst, _∙_}
 use native.Mathlib.Omega.{arith}
 use lib.ListN.{length, take}
-use Rattle.config.specs.Refusal.{accepted, queueFull}
+use Rattle.config.specs.Refusal.{accepted}
 use Rattle.config.specs.declared.config.Priority.{Priority}
 use Rattle.pacing.proofs.Records.{Matches}
 use Rattle.pacing.proofs.Rings.{contents-first, slot-below}
 use Rattle.pacing.proofs.Slots.{noted-send, look-noted}
-use Rattle.pacing.specs.Entries.{queueAt, look, mostOf, noKey}
+use Rattle.pacing.specs.Entries.{queueAt, look, noKey}
 use Rattle.pacing.specs.Records.{Held, held, waiting, limitIn, partsOf}
 use Rattle.pacing.specs.Ring.{slotAt, fateNumber}
 use Rattle.pacing.specs.WriterPacer.{ringOf, frontOf, attempt, attemptBy, sendNoted}
 use Rattle.pacing.specs.declared.pool.Limits.{Limits}
 use Rattle.pacing.specs.declared.ring.Fate.{Fate}
 use Rattle.pacing.specs.declared.ring.Fate.the-variants.{Full, Joined, PushedOut, Replaced}
-use Rattle.pacing.specs.declared.token_bucket.TokenBucket.{TokenBucket}
 use Rattle.pacing.specs.declared.writer_pacer.Attempt.{Attempt}
 use Rattle.pacing.specs.declared.writer_pacer.PacerCore.{PacerCore}
 use Rattle.pacing.specs.declared.writer_pacer.Queues.{Queues}
 use Rattle.pacing.specs.declared.writer_pacer.SendAction.{SendAction}
-use Rattle.pacing.specs.declared.writer_pacer.SendAction.the-variants.{Send, Empty, RateLimited}
+use Rattle.pacing.specs.declared.writer_pacer.SendAction.the-variants.{Empty, RateLimited}
 use Rattle.station.specs.Station.{pacerIn, paced, enqueuedIn, attemptIn}
 use Rattle.station.specs.declared.station.Station.{Station}
-use Rattle.guarantees.specs.Book.{Page, Book}
+use Rattle.guarantees.specs.Book.{Book}
 use Rattle.guarantees.specs.Calls.{Lent, Call, send, Reply, nothing, signal, unchanged, updates, action, Outcome, outcome, State, answered, after, run}
 use Rattle.guarantees.specs.Theorem.{Kept, keep, keeps, bucketIn, AllTurnedDown, HeadGoes}
 use Rattle.guarantees.specs.Theorem as theorem
@@ -37,7 +36,7 @@ use Rattle.guarantees.proofs.Paces.{Ticking, ticking-run}
 use Rattle.guarantees.proofs.Pages.{empty-list, SomePool, some-step, kept-to}
 use Rattle.guarantees.proofs.Rosters.{pacer-same}
 use Rattle.guarantees.proofs.Sound.{Sound}
-use Rattle.guarantees.proofs.Tokens.{Paced, GoesAt, wait-enabled, wait-queues, wait-goes}
+use Rattle.guarantees.proofs.Tokens.{GoesAt, wait-enabled, wait-queues, wait-goes}
 
 -- ---- calls turned down
 
@@ -59,8 +58,8 @@ still-outcome s n x = by-case s n P cases x
     cases =
         record {
           turned-down = λ x answer z t still a b. refl;
-          steers = λ x time reply c q silent h a b. absurd (a refl);
-          allots = λ x time c q h a b. absurd (a refl);
+          steers = λ x time reply c same q silent h a b. absurd (a refl);
+          allots = λ x time c rate is q h a b. absurd (a refl);
           registers = λ time id class h lo a b. absurd (a refl);
           hands = λ time i c key bytes lent h lo short wide puts a b. absurd (taken-or-full (enqueuedIn s i c key .kept .fate) a b);
           tries = λ time i lent h lo wide a b. absurd (a refl);

@@ -6,7 +6,6 @@ use mathlib.Core.List.{List, [], _∷_, _++_, map, List·Memᴰ}
 use mathlib.Core.Logic.{_≢_}
 use mathlib.Core.Path.{_≡_}
 use lib.Dec.{eqb}
-use lib.Ieee.{Float}
 use lib.ListN.{length, getD, replicate, take}
 use Rattle.config.specs.Config.{classNumber}
 use Rattle.config.specs.Refusal.{accepted, queueFull}
@@ -18,7 +17,7 @@ use Rattle.pacing.specs.Pool.{isShort, limitsOf, slotStart}
 use Rattle.pacing.specs.Records.{Held, waiting}
 use Rattle.pacing.specs.TokenBucket.{waitOf}
 use Rattle.pacing.specs.Window.{contents}
-use Rattle.pacing.specs.WriterPacer.{ringOf, metricsIn}
+use Rattle.pacing.specs.WriterPacer.{ringOf, metricsIn, rateOf}
 use Rattle.pacing.specs.declared.coalescing.InstanceKey.{InstanceKey}
 use Rattle.pacing.specs.declared.entries.Entry.{Entry}
 use Rattle.pacing.specs.declared.pool.Limits.{Limits}
@@ -26,10 +25,11 @@ use Rattle.pacing.specs.declared.token_bucket.TokenBucket.{TokenBucket}
 use Rattle.pacing.specs.declared.writer_pacer.SendAction.{SendAction}
 use Rattle.pacing.specs.declared.writer_pacer.SendAction.the-variants.{Send, Empty, RateLimited}
 use Rattle.pacing.specs.declared.writer_pacer.WriterPacerMetrics.{WriterPacerMetrics}
-use Rattle.station.specs.Station.{pacerIn, limitsIn, slotsNeeded, madeStation, enqueuedIn}
+use Rattle.control.specs.declared.budget_allocator.WriterInfo.{WriterInfo}
+use Rattle.station.specs.Station.{writerAt, pacerIn, limitsIn, slotsNeeded, madeStation, enqueuedIn}
 use Rattle.station.specs.declared.station.Station.{Station}
 use Rattle.guarantees.specs.Book.{Queue, Page, Book, emptyPage, emptyBook, noted, sentIn}
-use Rattle.guarantees.specs.Calls.{Lent, owed, instead, Call, register, eagain, tos, nacks, rtt, tick, handIn, send, setRate, Reply, nothing, signal, unchanged, updates, action, Outcome, shownBy, State, stateOf, inPlace, lentIn, lentLength, answered, after, run, answers}
+use Rattle.guarantees.specs.Calls.{Lent, owed, instead, Call, register, eagain, tos, nacks, rtt, tick, handIn, send, setRate, Reply, nothing, signal, unchanged, updates, action, Outcome, shownBy, State, stateOf, inPlace, lentIn, answered, after, run, answers}
 
 -- ==== lists of calls, with the book kept
 
@@ -239,6 +239,24 @@ setsBy i s x o = cond (isUpdates (o .reply)) true (begins i s x (o .answer))
 abbrev pub sets : ℕ → State → Call → Bool
 sets i s x = setsBy i (s .station) x (answered s x)
 
+-- the rate of pacer i after a call is the new budget in its writer's row, held to the settings' range
+pub record SetTo (rows : List WriterInfo) (s t : Station) (i : ℕ) : Type 0 where
+  pub row : WriterInfo
+  pub listed : List·Memᴰ row rows
+  pub own : row .id ≡ writerAt (s .roster) i .id
+  pub rate-is : pacerIn t i .tokens .«rate_bps» ≡ rateOf (s .config .pacer) (row .«budget_bps»)
+
+-- "so does each budget update, sent to its `set_rate`": the updates that a call tells reach every pacer
+abbrev pub ReplyReaches : Station → Station → Reply → Type 0
+ReplyReaches s t (updates rows) = (i : ℕ) → i < s .roster .count → SetTo rows s t i
+ReplyReaches s t nothing = Unit {0}
+ReplyReaches s t (signal b) = Unit {0}
+ReplyReaches s t unchanged = Unit {0}
+ReplyReaches s t (action a) = Unit {0}
+
+unfoldable pub Reaches : Kept → Call → Type 0
+Reaches k x = ReplyReaches (k .state .station) (after (k .state) x .station) (answered (k .state) x .reply)
+
 -- no call of a list sets it
 unfoldable pub Unset : ℕ → State → List Call → Type 0
 Unset i s [] = Unit {0}
@@ -299,6 +317,11 @@ Allowance start calls =
     → Unset i (after (run start before) set) between
     → answered (run (after (run start before) set) between) (send time i lent) .answer ≡ accepted
     → WithinAllowance i (after (run start before) set) (between ++ (send time i lent ∷ [])) time
+
+-- every update is a setting, and between settings no more is sent
+pub record Allowed (m : Limits) (start : Kept) (calls : List Call) : Type 0 where
+  pub settings : Each m Reaches start calls
+  pub within : Allowance (start .state) calls
 
 -- ==== 3. waits
 
@@ -418,7 +441,7 @@ started c time pool = keptOf (stateOf (madeStation c time .station) pool) emptyB
 
 pub record Demand3 (c : CongestionConfig) (time : ℕ) (pool : List ℕ) (calls : List Call) : Type 0 where
   pub fates : Fates (limitsOf c) (started c time pool) calls
-  pub allowance : Allowance (started c time pool .state) calls
+  pub allowance : Allowed (limitsOf c) (started c time pool) calls
   pub waits : Waits (limitsOf c) (started c time pool) calls
   pub contents : Contents (started c time pool .state) calls
 
