@@ -29,13 +29,13 @@ use Rattle.control.specs.declared.budget_allocator.Shares.{Shares}
 use Rattle.control.specs.declared.budget_allocator.WriterInfo.{WriterInfo}
 use Rattle.control.specs.declared.budget_allocator.WriterTable.{WriterTable}
 use Rattle.control.specs.declared.controller.CongestionController.{CongestionController}
-use Rattle.station.specs.Station.{writerOf, writerAt, withPacer, joined, budgeted, budgetedAll, allotted, registerLeaves, firstPacer}
+use Rattle.station.specs.Station.{writerOf, writerAt, pacerIn, withPacer, joined, budgeted, budgetedAll, allotted, registerLeaves, firstPacer}
 use Rattle.station.specs.declared.station.Roster.{Roster}
 use Rattle.station.specs.declared.station.Station.{Station}
 use Rattle.station.specs.declared.station.Writer.{Writer}
 use Rattle.guarantees.specs.Calls.{Call, Reply, nothing, signal, unchanged, updates, action, Outcome, rowsOf, outcome, after}
-use Rattle.guarantees.specs.Theorem.{Kept, keep, Each, isUpdates, SetTo, ReplyReaches, Reaches}
-use Rattle.guarantees.proofs.Changes.{Cases, by-case}
+use Rattle.guarantees.specs.Theorem.{Kept, keep, Each, isUpdates, SetTo, ReplyReaches, StartsLeast, Reaches}
+use Rattle.guarantees.proofs.Changes.{begins-down, Cases, by-case}
 use Rattle.guarantees.proofs.Pages.{each}
 use Rattle.guarantees.proofs.Rosters.{Seated, id-with, count-with, seated-with, joined-new, joined-other, count-joined, seated-joined, id-budgeted, budgeted-at, count-budgeted, seated-budgeted}
 
@@ -307,11 +307,42 @@ module _ (s : Station) (ok : Known s) where
             tries = λ time i lent h lo wide. tt;
           }
 
+  -- a newcomer's pacer starts at the least rate
+  starts-registered :
+      (time id : ℕ) (class : Priority) → s .roster .count < 4 → (i : ℕ) → eqb i (s .roster .count) ≡ true
+      → pacerIn (registerLeaves s time id class) i .tokens .«rate_bps» ≡ s .config .pacer .«min_rate_bps»
+  unfolding registerLeaves
+  starts-registered time id class room i e =
+      let w : Writer = writerOf id (firstPacer (s .config .pacer) time) in
+      ap (λ (x : Writer). x .pacer .tokens .«rate_bps») (ap (writerAt (joined (s .roster) w)) (eqb-true _ _ e) ∙ joined-new (s .roster) w (ok .seated) room)
+
+  pub starts-outcome : (n : ℕ) (x : Call) → StartsLeast s (outcome s n x .station) x (outcome s n x .answer)
+  starts-outcome n x = by-case s n P cases x
+    where
+      P : Call → Outcome → Type 0
+      P y o = StartsLeast s (o .station) y (o .answer)
+
+      cases : Cases s n P
+      cases =
+          record {
+            turned-down = λ y answer z t still i e. absurd (true≢false (sym e ∙ begins-down i s y answer z));
+            steers = λ y time reply c same q silent h i e. absurd (true≢false (sym e ∙ q .registers-none i s 0));
+            allots = λ y time c rate is q h i e. absurd (true≢false (sym e ∙ q .registers-none i s 0));
+            registers = λ time id class h lo. starts-registered time id class lo;
+            hands = λ time j c key bytes lent h lo short wide puts i e. absurd (true≢false (sym e));
+            tries = λ time j lent h lo wide i e. absurd (true≢false (sym e));
+          }
+
 -- ---- lists
 
--- "so does each budget update"
+-- "A pacer starts at `min_rate_bps`, which counts as a rate setting; so does each budget update"
 pub settings : (m : Limits) (start : Kept) → Known (start .state .station) → (calls : List Call) → Each m Reaches start calls
-unfolding keep after Reaches
+unfolding keep after
 settings m start ok calls =
     each m (λ k xs. Known (k .state .station)) (λ k x xs h. known-outcome (k .state .station) h (length (k .state .pool)) x) Reaches
-    (λ k x xs h. reaches-outcome (k .state .station) h (length (k .state .pool)) x) start calls ok
+    (λ k x xs h.
+    record {
+      starts = starts-outcome (k .state .station) h (length (k .state .pool)) x;
+      budgets = reaches-outcome (k .state .station) h (length (k .state .pool)) x;
+    })
+    start calls ok

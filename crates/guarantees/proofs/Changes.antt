@@ -6,7 +6,7 @@ use mathlib.Core.List.{List}
 use mathlib.Core.Logic.{_≢_}
 use mathlib.Core.Path.{_≡_, refl, sym, ap, subst, _∙_}
 use native.Mathlib.Omega.{arith}
-use borrow.Author.Tests.{eqb-true, eqb-false, ltb-false, leb-false}
+use borrow.Author.Tests.{ne-eqb, eqb-true, eqb-false, ltb-false, leb-false}
 use lib.Dec.{ltb, leb, eqb}
 use lib.Ieee.{Float}
 use lib.ListN.{length}
@@ -32,7 +32,7 @@ use Rattle.station.specs.declared.station.StationAnswer.{StationAnswer}
 use Rattle.station.specs.declared.station.StationSent.{StationSent}
 use Rattle.guarantees.specs.Book.{Book, Sent, none, sentIn, noted}
 use Rattle.guarantees.specs.Calls.{Lent, owed, Call, register, eagain, tos, nacks, rtt, tick, handIn, send, setRate, Reply, nothing, signal, unchanged, updates, action, Outcome, outcomeOf, plain, signals, allots, attempts, rowsOf, lentLength, lentIn, outcome, written}
-use Rattle.guarantees.specs.Theorem.{isUpdates, paidBy}
+use Rattle.guarantees.specs.Theorem.{isUpdates, begins, paidBy}
 use Rattle.pacing.specs.declared.pool.Limits.{Limits}
 
 -- ---- calls and replies that concern no record
@@ -43,30 +43,43 @@ pub record Quiet (x : Call) : Type 0 where
   pub pool : (s : Station) (n : ℕ) (p : List ℕ) → written s n x p ≡ p
   pub lent : lentIn x ≡ owed
   pub pays : (i : ℕ) (reply : Reply) → paidBy i x reply ≡ 0
+  pub registers-none : (i : ℕ) (s : Station) (answer : ℕ) → begins i s x answer ≡ false
 
 quiet-eagain : (time : ℕ) → Quiet (eagain time)
 unfolding noted written paidBy
-quiet-eagain time = record { book = λ m b a s. refl; pool = λ s n p. refl; lent = refl; pays = λ i r. refl }
+quiet-eagain time = record { book = λ m b a s. refl; pool = λ s n p. refl; lent = refl; pays = λ i r. refl; registers-none = λ i s a. refl }
 
 quiet-tos : (time byte : ℕ) → Quiet (tos time byte)
 unfolding noted written paidBy
-quiet-tos time byte = record { book = λ m b a s. refl; pool = λ s n p. refl; lent = refl; pays = λ i r. refl }
+quiet-tos time byte = record { book = λ m b a s. refl; pool = λ s n p. refl; lent = refl; pays = λ i r. refl; registers-none = λ i s a. refl }
 
 quiet-nacks : (time count : ℕ) → Quiet (nacks time count)
 unfolding noted written paidBy
-quiet-nacks time count = record { book = λ m b a s. refl; pool = λ s n p. refl; lent = refl; pays = λ i r. refl }
+quiet-nacks time count = record { book = λ m b a s. refl; pool = λ s n p. refl; lent = refl; pays = λ i r. refl; registers-none = λ i s a. refl }
 
 quiet-rtt : (time peer : ℕ) (sample : Float) → Quiet (rtt time peer sample)
 unfolding noted written paidBy
-quiet-rtt time peer sample = record { book = λ m b a s. refl; pool = λ s n p. refl; lent = refl; pays = λ i r. refl }
+quiet-rtt time peer sample = record { book = λ m b a s. refl; pool = λ s n p. refl; lent = refl; pays = λ i r. refl; registers-none = λ i s a. refl }
 
 quiet-tick : (time : ℕ) → Quiet (tick time)
 unfolding noted written paidBy
-quiet-tick time = record { book = λ m b a s. refl; pool = λ s n p. refl; lent = refl; pays = λ i r. refl }
+quiet-tick time = record { book = λ m b a s. refl; pool = λ s n p. refl; lent = refl; pays = λ i r. refl; registers-none = λ i s a. refl }
 
 quiet-rate : (time rate : ℕ) → Quiet (setRate time rate)
 unfolding noted written paidBy
-quiet-rate time rate = record { book = λ m b a s. refl; pool = λ s n p. refl; lent = refl; pays = λ i r. refl }
+quiet-rate time rate = record { book = λ m b a s. refl; pool = λ s n p. refl; lent = refl; pays = λ i r. refl; registers-none = λ i s a. refl }
+
+-- a call turned down registers nobody
+pub begins-down : (i : ℕ) (s : Station) (x : Call) (answer : ℕ) → answer ≢ 0 → begins i s x answer ≡ false
+begins-down i s (register time id class) answer z = rw (ne-eqb answer 0 z)
+begins-down i s (eagain time) answer z = refl
+begins-down i s (tos time byte) answer z = refl
+begins-down i s (nacks time count) answer z = refl
+begins-down i s (rtt time peer sample) answer z = refl
+begins-down i s (tick time) answer z = refl
+begins-down i s (handIn time j class key bytes lent) answer z = refl
+begins-down i s (send time j lent) answer z = refl
+begins-down i s (setRate time rate) answer z = refl
 
 -- a reply that tells of no record and of no budgets
 pub record Silent (r : Reply) : Type 0 where

@@ -254,8 +254,14 @@ ReplyReaches s t (signal b) = Unit {0}
 ReplyReaches s t unchanged = Unit {0}
 ReplyReaches s t (action a) = Unit {0}
 
-unfoldable pub Reaches : Kept → Call → Type 0
-Reaches k x = ReplyReaches (k .state .station) (after (k .state) x .station) (answered (k .state) x .reply)
+-- "A pacer starts at `min_rate_bps`"
+abbrev pub StartsLeast : Station → Station → Call → ℕ → Type 0
+StartsLeast s t x answer = (i : ℕ) → begins i s x answer ≡ true → pacerIn t i .tokens .«rate_bps» ≡ s .config .pacer .«min_rate_bps»
+
+-- a call that sets a pacer's rate leaves it at that rate
+pub record Reaches (k : Kept) (x : Call) : Type 0 where
+  pub starts : StartsLeast (k .state .station) (after (k .state) x .station) x (answered (k .state) x .answer)
+  pub budgets : ReplyReaches (k .state .station) (after (k .state) x .station) (answered (k .state) x .reply)
 
 -- no call of a list sets it
 unfoldable pub Unset : ℕ → State → List Call → Type 0
