@@ -31,7 +31,7 @@ use Rattle.station.specs.declared.station.Station.{Station}
 use Rattle.station.specs.declared.station.StationAnswer.{StationAnswer}
 use Rattle.station.specs.declared.station.StationSent.{StationSent}
 use Rattle.guarantees.specs.Book.{Book, Sent, none, sentIn, noted}
-use Rattle.guarantees.specs.Calls.{Lent, owed, Call, register, eagain, tos, nacks, rtt, tick, handIn, send, setRate, Reply, nothing, signal, unchanged, updates, action, Outcome, outcomeOf, plain, signals, allots, attempts, rowsOf, lentLength, lentIn, outcome, written}
+use Rattle.guarantees.specs.Calls.{Lent, owed, Steering, eagain, tos, nacks, rtt, tick, setRate, Call, register, control, handIn, send, controlled, Reply, nothing, signal, unchanged, updates, action, Outcome, outcomeOf, plain, signals, allots, attempts, rowsOf, lentLength, lentIn, outcome, written}
 use Rattle.guarantees.specs.Theorem.{isUpdates, begins, paidBy}
 use Rattle.pacing.specs.declared.pool.Limits.{Limits}
 
@@ -45,41 +45,23 @@ pub record Quiet (x : Call) : Type 0 where
   pub pays : (i : ℕ) (reply : Reply) → paidBy i x reply ≡ 0
   pub registers-none : (i : ℕ) (s : Station) (answer : ℕ) → begins i s x answer ≡ false
 
-quiet-eagain : (time : ℕ) → Quiet (eagain time)
+quiet-control : (time : ℕ) (steering : Steering) → Quiet (control time steering)
 unfolding noted written paidBy
-quiet-eagain time = record { book = λ m b a s. refl; pool = λ s n p. refl; lent = refl; pays = λ i r. refl; registers-none = λ i s a. refl }
-
-quiet-tos : (time byte : ℕ) → Quiet (tos time byte)
-unfolding noted written paidBy
-quiet-tos time byte = record { book = λ m b a s. refl; pool = λ s n p. refl; lent = refl; pays = λ i r. refl; registers-none = λ i s a. refl }
-
-quiet-nacks : (time count : ℕ) → Quiet (nacks time count)
-unfolding noted written paidBy
-quiet-nacks time count = record { book = λ m b a s. refl; pool = λ s n p. refl; lent = refl; pays = λ i r. refl; registers-none = λ i s a. refl }
-
-quiet-rtt : (time peer : ℕ) (sample : Float) → Quiet (rtt time peer sample)
-unfolding noted written paidBy
-quiet-rtt time peer sample = record { book = λ m b a s. refl; pool = λ s n p. refl; lent = refl; pays = λ i r. refl; registers-none = λ i s a. refl }
-
-quiet-tick : (time : ℕ) → Quiet (tick time)
-unfolding noted written paidBy
-quiet-tick time = record { book = λ m b a s. refl; pool = λ s n p. refl; lent = refl; pays = λ i r. refl; registers-none = λ i s a. refl }
-
-quiet-rate : (time rate : ℕ) → Quiet (setRate time rate)
-unfolding noted written paidBy
-quiet-rate time rate = record { book = λ m b a s. refl; pool = λ s n p. refl; lent = refl; pays = λ i r. refl; registers-none = λ i s a. refl }
+quiet-control time steering =
+    record {
+      book = λ m b a s. refl;
+      pool = λ s n p. refl;
+      lent = refl;
+      pays = λ i r. refl;
+      registers-none = λ i s a. refl;
+    }
 
 -- a call turned down registers nobody
 pub begins-down : (i : ℕ) (s : Station) (x : Call) (answer : ℕ) → answer ≢ 0 → begins i s x answer ≡ false
 begins-down i s (register time id class) answer z = rw (ne-eqb answer 0 z)
-begins-down i s (eagain time) answer z = refl
-begins-down i s (tos time byte) answer z = refl
-begins-down i s (nacks time count) answer z = refl
-begins-down i s (rtt time peer sample) answer z = refl
-begins-down i s (tick time) answer z = refl
+begins-down i s (control time steering) answer z = refl
 begins-down i s (handIn time j class key bytes lent) answer z = refl
 begins-down i s (send time j lent) answer z = refl
-begins-down i s (setRate time rate) answer z = refl
 
 -- a reply that tells of no record and of no budgets
 pub record Silent (r : Reply) : Type 0 where
@@ -196,11 +178,17 @@ module _ (s : Station) (n : ℕ) (P : Call → Outcome → Type 0) (cases : Case
   passed : (time : ℕ) → NoneOf order (timedChecks (s .ledger) time) → Timed s time
   passed time h = timed-by s time (timedChecks (s .ledger) time) refl refl refl h
 
-  ticks : (time : ℕ) (k : CoreTicked) → Timed s time → P (tick time) (allots (tickLeaves s time (tickedWith (s .controller) (s .config .controller) k)))
+  -- the controller is steered, and the reply tells of no record and no budgets
+  steers-by :
+      (time : ℕ) (steering : Steering) (reply : Reply) (c : CongestionController) → c .allocator ≡ s .controller .allocator → Silent reply → Timed s time
+      → P (control time steering) (outcomeOf 0 reply (steered s time c))
+  steers-by time steering reply c same silent h = cases .steers (control time steering) time reply c same (quiet-control time steering) silent h
+
+  ticks : (time : ℕ) (k : CoreTicked) → Timed s time → P (control time tick) (allots (tickLeaves s time (tickedWith (s .controller) (s .config .controller) k)))
   ticks time k h =
-      by-test (λ (t : ControllerTicked). P (tick time) (allots (tickLeaves s time t))) (k .changed)
-      (λ e. cases .allots (tick time) time _ (k .core .«rate_controller» .«current_rate») refl (quiet-tick time) h)
-      (λ e. cases .steers (tick time) time unchanged _ refl (quiet-tick time) (record { sends-none = refl; no-updates = refl }) h)
+      by-test (λ (t : ControllerTicked). P (control time tick) (allots (tickLeaves s time t))) (k .changed)
+      (λ e. cases .allots (control time tick) time _ (k .core .«rate_controller» .«current_rate») refl (quiet-control time tick) h)
+      (λ e. steers-by time tick unchanged _ refl (record { sends-none = refl; no-updates = refl }) h)
 
   -- a sample leaves the allocator
   sample-leaves :
@@ -209,29 +197,39 @@ module _ (s : Station) (n : ℕ) (P : Call → Outcome → Type 0) (cases : Case
   sample-leaves time peer sample =
       by-test (λ (c : CongestionController). c .allocator ≡ s .controller .allocator) (s .config .controller .enabled) (λ e. refl) (λ e. refl)
 
+  by-control : (time : ℕ) (steering : Steering) → P (control time steering) (controlled s time steering)
+  unfolding controlled written eagainStation nacksStation tosStation rttStation tickedStation ratedStation controllerTicked controllerSet
+  by-control time eagain =
+      by-checks (control time eagain) plain (timedChecks (s .ledger) time) _ refl plain-down (λ e p. refl)
+      (λ e h. steers-by time eagain nothing _ refl (record { sends-none = refl; no-updates = refl }) (passed time h))
+  by-control time (tos byte) =
+      by-checks (control time (tos byte)) signals (timedChecks (s .ledger) time) _ refl signals-down (λ e p. refl)
+      (λ e h. steers-by time (tos byte) (signal _) _ refl (record { sends-none = refl; no-updates = refl }) (passed time h))
+  by-control time (nacks count) =
+      by-checks (control time (nacks count)) plain (timedChecks (s .ledger) time) _ refl plain-down (λ e p. refl)
+      (λ e h. steers-by time (nacks count) nothing _ refl (record { sends-none = refl; no-updates = refl }) (passed time h))
+  by-control time (rtt peer sample) =
+      by-checks (control time (rtt peer sample)) plain (rttChecks s time peer sample) _ refl plain-down (λ e p. refl)
+      (λ e h.
+      steers-by time (rtt peer sample) nothing _ (sample-leaves time peer sample) (record { sends-none = refl; no-updates = refl })
+      (timed-by s time (rttChecks s time peer sample) refl refl refl h))
+  by-control time tick =
+      by-checks (control time tick) allots (timedChecks (s .ledger) time) (tickLeaves s time (controllerTicked (s .controller) (s .config .controller) time)) refl allots-down (λ e p. refl)
+      (λ e h. ticks time (coreTicked (s .controller .core) (s .config .controller) time (anyInflated (s .controller .tracker))) (passed time h))
+  by-control time (setRate rate) =
+      by-checks (control time (setRate rate)) allots (rateChecks (s .ledger) time rate)
+      (answerWith 0 true (allotted s time (controllerSet (s .controller) (s .config .controller) time rate))) refl allots-down (λ e p. refl)
+      (λ e h.
+      cases .allots (control time (setRate rate)) time (controllerSet (s .controller) (s .config .controller) time rate) rate refl (quiet-control time (setRate rate))
+      (timed-by s time (rateChecks (s .ledger) time rate) refl refl refl h))
+
   -- every call is one of the cases
   pub by-case : (x : Call) → P x (outcome s n x)
-  unfolding outcome written poolHanded registeredStation eagainStation nacksStation tosStation rttStation tickedStation ratedStation handedStation controllerTicked controllerSet
+  unfolding outcome written poolHanded registeredStation handedStation
   by-case (register time id class) =
       by-checks (register time id class) plain (registerChecks s time id) (answerWith 0 false (registerLeaves s time id class)) refl plain-down (λ e p. refl)
       (λ e h. cases .registers time id class (timed-by s time (registerChecks s time id) refl refl refl h) (leb-false _ _ (h .1 .1 .1 .1 .1 .1 .1 .1 .1 .1 .1 .1 .1 .0)))
-  by-case (eagain time) =
-      by-checks (eagain time) plain (timedChecks (s .ledger) time) _ refl plain-down (λ e p. refl)
-      (λ e h. cases .steers (eagain time) time nothing _ refl (quiet-eagain time) (record { sends-none = refl; no-updates = refl }) (passed time h))
-  by-case (tos time byte) =
-      by-checks (tos time byte) signals (timedChecks (s .ledger) time) _ refl signals-down (λ e p. refl)
-      (λ e h. cases .steers (tos time byte) time (signal _) _ refl (quiet-tos time byte) (record { sends-none = refl; no-updates = refl }) (passed time h))
-  by-case (nacks time count) =
-      by-checks (nacks time count) plain (timedChecks (s .ledger) time) _ refl plain-down (λ e p. refl)
-      (λ e h. cases .steers (nacks time count) time nothing _ refl (quiet-nacks time count) (record { sends-none = refl; no-updates = refl }) (passed time h))
-  by-case (rtt time peer sample) =
-      by-checks (rtt time peer sample) plain (rttChecks s time peer sample) _ refl plain-down (λ e p. refl)
-      (λ e h.
-      cases .steers (rtt time peer sample) time nothing _ (sample-leaves time peer sample) (quiet-rtt time peer sample) (record { sends-none = refl; no-updates = refl })
-      (timed-by s time (rttChecks s time peer sample) refl refl refl h))
-  by-case (tick time) =
-      by-checks (tick time) allots (timedChecks (s .ledger) time) (tickLeaves s time (controllerTicked (s .controller) (s .config .controller) time)) refl allots-down (λ e p. refl)
-      (λ e h. ticks time (coreTicked (s .controller .core) (s .config .controller) time (anyInflated (s .controller .tracker))) (passed time h))
+  by-case (control time steering) = by-control time steering
   by-case (handIn time i c key bytes lent) =
       by-checks (handIn time i c key bytes lent) plain (handInChecks s (lentLength n lent) time i (length bytes)) _ refl plain-down (λ e p. rw e)
       (λ e h.
@@ -239,9 +237,3 @@ module _ (s : Station) (n : ℕ) (P : Call → Outcome → Type 0) (cases : Case
       (leb-false _ _ (h .1 .1 .1 .1 .1 .1 .1 .1 .1 .1 .1 .0)) (ltb-false _ _ (h .1 .1 .0)) (h .1 .1 .1 .1 .1 .1 .1 .0) (λ p. rw e))
   by-case (send time i lent) =
       by-send s n time i lent (P (send time i lent)) (λ answer z t. cases .turned-down (send time i lent) answer z t (λ p. refl)) (cases .tries time i lent)
-  by-case (setRate time rate) =
-      by-checks (setRate time rate) allots (rateChecks (s .ledger) time rate)
-      (answerWith 0 true (allotted s time (controllerSet (s .controller) (s .config .controller) time rate))) refl allots-down (λ e p. refl)
-      (λ e h.
-      cases .allots (setRate time rate) time (controllerSet (s .controller) (s .config .controller) time rate) rate refl (quiet-rate time rate)
-      (timed-by s time (rateChecks (s .ledger) time rate) refl refl refl h))

@@ -21,7 +21,7 @@ use Rattle.pacing.specs.declared.ring.Fate.the-variants.{Full, Joined, PushedOu
 use Rattle.station.specs.Station.{limitsIn, slotsNeeded, leftBy, turnedDown, handInAnswer, enqueuedIn, handInLeaves, handedStation, poolHanded, sentStation}
 use Rattle.station.specs.declared.station.Station.{Station}
 use Rattle.station.specs.declared.station.StationAnswer.{StationAnswer}
-use Rattle.guarantees.specs.Calls.{Lent, owed, instead, Call, register, eagain, tos, nacks, rtt, tick, handIn, send, setRate, Outcome, plain, attempts, lentLength, outcome, inPlace, lentIn, written, State, stateOf, answered, after, run, Answer, answers}
+use Rattle.guarantees.specs.Calls.{Lent, owed, instead, Call, register, control, handIn, send, Outcome, plain, attempts, lentLength, outcome, inPlace, lentIn, written, State, stateOf, answered, after, run, Answer, answers}
 use Rattle.guarantees.specs.Theorem.{blank, blankLent, blanked, SameAt, LentSame, putAt, bytesIn, PutSame, AllSame, Alike, Contents}
 
 -- ---- what a call lays in the pool
@@ -39,15 +39,10 @@ laid (at start) bytes pool = stored pool start bytes
 -- a record that is accepted goes to its slot
 unfoldable spot : Station → ℕ → Call → Spot
 spot s n (register time id class) = nowhere
-spot s n (eagain time) = nowhere
-spot s n (tos time byte) = nowhere
-spot s n (nacks time count) = nowhere
-spot s n (rtt time peer sample) = nowhere
-spot s n (tick time) = nowhere
+spot s n (control time steering) = nowhere
 spot s n (handIn time i c key bytes lent) =
     cond (eqb (outcome s n (handIn time i c key bytes lent) .answer) accepted) (at (putAt s i c key)) nowhere
 spot s n (send time i lent) = nowhere
-spot s n (setRate time rate) = nowhere
 
 -- a record that found its queue full has the number 12 and is laid nowhere
 fate-laid : (f : Fate) (start : ℕ) (bytes pool : List ℕ) →
@@ -75,16 +70,11 @@ answer-laid s a x f start bytes pool e = go (eqb a 0) refl
 written-laid : (s : Station) (n : ℕ) (x : Call) (pool : List ℕ) → written s n x pool ≡ laid (spot s n x) (bytesIn x) pool
 unfolding written laid spot outcome poolHanded handInStored handedStation
 written-laid s n (register time id class) pool = refl
-written-laid s n (eagain time) pool = refl
-written-laid s n (tos time byte) pool = refl
-written-laid s n (nacks time count) pool = refl
-written-laid s n (rtt time peer sample) pool = refl
-written-laid s n (tick time) pool = refl
+written-laid s n (control time steering) pool = refl
 written-laid s n (handIn time i c key bytes lent) pool =
     answer-laid s (handInAnswer s (lentLength n lent) time i (length bytes))
     (handInLeaves s time i c key (length bytes) (enqueuedIn s i c key)) (enqueuedIn s i c key .kept .fate) (putAt s i c key) bytes pool refl
 written-laid s n (send time i lent) pool = refl
-written-laid s n (setRate time rate) pool = refl
 
 -- ---- what is read of a call
 
@@ -130,15 +120,10 @@ sendRead s time i pool lent =
 read-blanked : (s : Station) (n : ℕ) (x : Call) → read s n x ≡ read s n (blanked x)
 unfolding spot outcome blanked
 read-blanked s n (register time id class) = refl
-read-blanked s n (eagain time) = refl
-read-blanked s n (tos time byte) = refl
-read-blanked s n (nacks time count) = refl
-read-blanked s n (rtt time peer sample) = refl
-read-blanked s n (tick time) = refl
+read-blanked s n (control time steering) = refl
 read-blanked s n (handIn time i c key bytes lent) =
     λ j. handRead s time i c key (lent-blank n lent j) (length-blank bytes j) (blank-again lent j)
 read-blanked s n (send time i lent) = λ j. sendRead s time i (lent-blank n lent j) (blank-again lent j)
-read-blanked s n (setRate time rate) = refl
 
 -- and so of two calls that differ in contents alone
 read-alike : (s : Station) (m n : ℕ) (x y : Call) → m ≡ n → blanked x ≡ blanked y → read s m x ≡ read s n y
@@ -242,16 +227,11 @@ laid-carried (at start) bs bs′ p p′ f e =
 put-laid : (k : ℕ) (s : State) (x y : Call) → PutSame k s x y → LaidSame k (spot (s .station) (length (s .pool)) x) (bytesIn x) (bytesIn y)
 unfolding spot
 put-laid k s (register time id class) y h = tt
-put-laid k s (eagain time) y h = tt
-put-laid k s (tos time byte) y h = tt
-put-laid k s (nacks time count) y h = tt
-put-laid k s (rtt time peer sample) y h = tt
-put-laid k s (tick time) y h = tt
+put-laid k s (control time steering) y h = tt
 put-laid k s (handIn time i c key bytes lent) y h =
     by-test (λ (x : Spot). LaidSame k x bytes (bytesIn y)) (eqb (answered s (handIn time i c key bytes lent) .answer) accepted)
     (λ e. h (eqb-true (answered s (handIn time i c key bytes lent) .answer) accepted e)) (λ e. tt)
 put-laid k s (send time i lent) y h = tt
-put-laid k s (setRate time rate) y h = tt
 
 -- two calls bring no bytes that differ to place k
 abbrev StepSame : ℕ → State → Call → Call → Type 0

@@ -18,7 +18,7 @@ use Rattle.pacing.specs.Records.{Held}
 use Rattle.pacing.specs.declared.coalescing.InstanceKey.{InstanceKey}
 use Rattle.pacing.specs.declared.pool.Limits.{Limits}
 use Rattle.guarantees.specs.Book.{Queue, roomIn, joining, replacing, placeOf, keyedIn, handedTo, takenFrom, Page, pageOf, emptyPage, withQueue, sequenceOf, nextP2After, recordOf, pageHanded, pageUsed, handedBy, pageSent, Book, withPage, Sent, none, one, pageAfterSend, noted}
-use Rattle.guarantees.specs.Calls.{Call, register, eagain, tos, nacks, rtt, tick, handIn, send, setRate}
+use Rattle.guarantees.specs.Calls.{Call, register, control, handIn, send}
 use Rattle.guarantees.specs.Theorem.{weigh, numbered, fates, OneFate}
 
 -- ---- sums over lists
@@ -299,11 +299,6 @@ pub balanced-noted :
     (m : Limits) (b : Book) (x : Call) (answer : ℕ) (s : Sent) → ((i : ℕ) → BalancedPage (b i)) → (i : ℕ) → BalancedPage (noted m b x answer s i)
 unfolding noted
 balanced-noted m b (register time id class) answer s ok = ok
-balanced-noted m b (eagain time) answer s ok = ok
-balanced-noted m b (tos time byte) answer s ok = ok
-balanced-noted m b (nacks time count) answer s ok = ok
-balanced-noted m b (rtt time peer sample) answer s ok = ok
-balanced-noted m b (tick time) answer s ok = ok
+balanced-noted m b (control time steering) answer s ok = ok
 balanced-noted m b (handIn time i c key bytes lent) answer s ok = balanced-with b i _ (balanced-handed m (b i) c key bytes answer (ok i)) ok
 balanced-noted m b (send time i lent) answer s ok = balanced-with b i _ (balanced-sent (b i) s (ok i)) ok
-balanced-noted m b (setRate time rate) answer s ok = ok

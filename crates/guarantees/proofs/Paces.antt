@@ -24,7 +24,7 @@ use Rattle.station.specs.Station.{writerOf, writerAt, pacerIn, withPacer, joine
 use Rattle.station.specs.declared.station.Roster.{Roster}
 use Rattle.station.specs.declared.station.Station.{Station}
 use Rattle.station.specs.declared.station.Writer.{Writer}
-use Rattle.guarantees.specs.Calls.{Lent, Call, register, eagain, tos, nacks, rtt, tick, handIn, send, setRate, nothing, action, Outcome, outcome, State, answered, after, run}
+use Rattle.guarantees.specs.Calls.{Lent, Call, register, control, handIn, send, nothing, action, Outcome, outcome, State, answered, after, run}
 use Rattle.guarantees.specs.Theorem.{bucketIn, setsBy, sets, Unset, paidAs, paidBy, paid, refillsBy, refills, Allowance}
 use Rattle.guarantees.proofs.Changes.{Timed, Cases, by-case, by-send}
 use Rattle.guarantees.proofs.Rosters.{Seated, pacer-same, pacer-other, count-with, seated-with, joined-new, joined-other, seated-joined, budgeted-at, seated-budgeted}
@@ -145,13 +145,8 @@ pays-nothing : (i : ℕ) (x : Call) → paidBy i x nothing ≡ 0
 unfolding paidBy
 pays-nothing i (send time j lent) = by-test (λ (n : ℕ). n ≡ 0) (eqb j i) (λ e. refl) (λ e. refl)
 pays-nothing i (register time id class) = refl
-pays-nothing i (eagain time) = refl
-pays-nothing i (tos time byte) = refl
-pays-nothing i (nacks time count) = refl
-pays-nothing i (rtt time peer sample) = refl
-pays-nothing i (tick time) = refl
+pays-nothing i (control time steering) = refl
 pays-nothing i (handIn time j class key bytes lent) = refl
-pays-nothing i (setRate time rate) = refl
 
 -- what pacer i sends by a call that does not set its rate is covered
 module _ (i : ℕ) (s : Station) (ok : Ticking s) where

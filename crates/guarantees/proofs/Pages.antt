@@ -23,7 +23,7 @@ use Rattle.pacing.specs.declared.writer_pacer.SendAction.the-variants.{Send, Em
 use Rattle.station.specs.Station.{pacerIn, limitsIn, slotsNeeded, shownBytes, attemptIn}
 use Rattle.station.specs.declared.station.Station.{Station}
 use Rattle.guarantees.specs.Book.{Page, Book, none, sentIn, noted}
-use Rattle.guarantees.specs.Calls.{Lent, owed, instead, Call, register, eagain, tos, nacks, rtt, tick, handIn, send, setRate, action, Outcome, outcome, lentLength, lentIn, inPlace, written, shownBy, answered, after}
+use Rattle.guarantees.specs.Calls.{Lent, owed, instead, Call, register, control, handIn, send, action, Outcome, outcome, lentLength, lentIn, inPlace, written, shownBy, answered, after}
 use Rattle.guarantees.specs.Theorem.{Kept, keep, keeps, Always, Each, enqueuedOf, sentOf, droppedOf, coalescedOf, metricsOf, ringIn, queued, Matched, Fated, ActionShows, ReplyShows, Sends, Shown, HoldsBytes, FirstBytes, ShownBytes, OwedOrShort, Owed, Fates}
 use Rattle.guarantees.proofs.Changes.{Cases, by-case, by-send}
 use Rattle.guarantees.proofs.Fates.{one-fate}
@@ -128,13 +128,8 @@ module _ (m : Limits) (i : ℕ) (g : List ℕ) (p : Page) where
 by-sends : (P : ℕ → Type 0) (x : Call) → ((time i : ℕ) (lent : Lent) → x ≡ send time i lent → P i) → Sends P x
 by-sends P (send time i lent) f = f time i lent refl
 by-sends P (register time id class) f = tt
-by-sends P (eagain time) f = tt
-by-sends P (tos time byte) f = tt
-by-sends P (nacks time count) f = tt
-by-sends P (rtt time peer sample) f = tt
-by-sends P (tick time) f = tt
+by-sends P (control time steering) f = tt
 by-sends P (handIn time i class key bytes lent) f = tt
-by-sends P (setRate time rate) f = tt
 
 -- a call shows the bytes of the first of a class of pacer i
 abbrev BytesBy : Kept → ℕ → Call → Type 0

@@ -41,7 +41,7 @@ use Rattle.station.specs.Station.{writerOf, writerAt, pacerIn, limitsIn, slotsN
 use Rattle.station.specs.declared.station.Station.{Station}
 use Rattle.station.specs.declared.station.Writer.{Writer}
 use Rattle.guarantees.specs.Book.{Page, Book, emptyPage, withPage, Sent, none, one, sentAs, sentIn, handedBy, pageAfterSend, noted}
-use Rattle.guarantees.specs.Calls.{Lent, Call, register, eagain, tos, nacks, rtt, tick, handIn, send, setRate, Outcome, outcome, written}
+use Rattle.guarantees.specs.Calls.{Lent, Call, register, control, handIn, send, Outcome, outcome, written}
 use Rattle.guarantees.proofs.Changes.{Timed, Cases, by-case}
 use Rattle.guarantees.proofs.Fates.{BalancedPage, balanced-noted, weigh-one}
 use Rattle.guarantees.proofs.HandIns.{pageView, decided, hands-in, TriedBy, tries-out, length-pool, stored-handed, matches-handed, stored-noted, matches-noted}
@@ -96,14 +96,9 @@ page-back b i = λ t j. at j t
 pub noted-down : (m : Limits) (b : Book) (x : Call) (answer : ℕ) → answer ≢ 0 → answer ≢ 12 → noted m b x answer none ≡ b
 unfolding noted handedBy pageAfterSend
 noted-down m b (register time id class) answer z t = refl
-noted-down m b (eagain time) answer z t = refl
-noted-down m b (tos time byte) answer z t = refl
-noted-down m b (nacks time count) answer z t = refl
-noted-down m b (rtt time peer sample) answer z t = refl
-noted-down m b (tick time) answer z t = refl
+noted-down m b (control time steering) answer z t = refl
 noted-down m b (handIn time i c key bytes lent) answer z t = rw (ne-eqb answer 0 z, ne-eqb answer 12 t) (page-back b i)
 noted-down m b (send time i lent) answer z t = page-back b i
-noted-down m b (setRate time rate) answer z t = refl
 
 -- ---- no counter saturates
 

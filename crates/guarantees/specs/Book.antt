@@ -16,7 +16,7 @@ use Rattle.pacing.specs.declared.coalescing.InstanceKey.{InstanceKey}
 use Rattle.pacing.specs.declared.pool.Limits.{Limits}
 use Rattle.pacing.specs.declared.writer_pacer.SendAction.{SendAction}
 use Rattle.pacing.specs.declared.writer_pacer.SendAction.the-variants.{Send, Empty, RateLimited}
-use Rattle.guarantees.specs.Calls.{Call, register, eagain, tos, nacks, rtt, tick, handIn, send, setRate, Reply, nothing, signal, unchanged, updates, action}
+use Rattle.guarantees.specs.Calls.{Call, register, control, handIn, send, Reply, nothing, signal, unchanged, updates, action}
 
 -- ---- one list of the book
 
@@ -150,11 +150,6 @@ pageAfterSend b (one c) = pageSent b c
 -- The book after a call: it reads the call's arguments, the answer number, and the class of a `sent`.
 unfoldable pub noted : Limits → Book → Call → ℕ → Sent → Book
 noted m b (register time id class) answer s = b
-noted m b (eagain time) answer s = b
-noted m b (tos time byte) answer s = b
-noted m b (nacks time count) answer s = b
-noted m b (rtt time peer sample) answer s = b
-noted m b (tick time) answer s = b
+noted m b (control time steering) answer s = b
 noted m b (handIn time i c key bytes lent) answer s = withPage b i (handedBy m (b i) c key bytes answer)
 noted m b (send time i lent) answer s = withPage b i (pageAfterSend (b i) s)
-noted m b (setRate time rate) answer s = b

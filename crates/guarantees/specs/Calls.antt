@@ -24,17 +24,21 @@ pub data Lent : Type 0 where
   owed : Lent
   instead : List ℕ → Lent
 
+-- A call on the controller alone, which concerns no record: one of the four signals, a tick or a rate setting.
+pub data Steering : Type 0 where
+  eagain : Steering
+  tos : (byte : ℕ) → Steering
+  nacks : (count : ℕ) → Steering
+  rtt : (peer : ℕ) (sample : Float) → Steering
+  tick : Steering
+  setRate : (rate : ℕ) → Steering
+
 -- Every call on a station, with any arguments. Each has the time first.
 pub data Call : Type 0 where
   register : (time id : ℕ) (class : Priority) → Call
-  eagain : (time : ℕ) → Call
-  tos : (time byte : ℕ) → Call
-  nacks : (time count : ℕ) → Call
-  rtt : (time peer : ℕ) (sample : Float) → Call
-  tick : (time : ℕ) → Call
+  control : (time : ℕ) → Steering → Call
   handIn : (time pacer : ℕ) (class : Priority) (key : InstanceKey) (bytes : List ℕ) → Lent → Call
   send : (time pacer : ℕ) → Lent → Call
-  setRate : (time rate : ℕ) → Call
 
 -- ---- answers
 
@@ -81,17 +85,21 @@ abbrev pub lentLength : ℕ → Lent → ℕ
 lentLength n owed = n
 lentLength n (instead pool) = length pool
 
+-- what a call on the controller alone answers
+unfoldable pub controlled : Station → ℕ → Steering → Outcome
+controlled s time eagain = plain (eagainStation s time)
+controlled s time (tos byte) = signals (tosStation s time byte)
+controlled s time (nacks count) = plain (nacksStation s time count)
+controlled s time (rtt peer sample) = plain (rttStation s time peer sample)
+controlled s time tick = allots (tickedStation s time)
+controlled s time (setRate rate) = allots (ratedStation s time rate)
+
 -- what a call answers; of the pool and of a record it takes the length alone
 unfoldable pub outcome : Station → ℕ → Call → Outcome
 outcome s n (register time id class) = plain (registeredStation s time id class)
-outcome s n (eagain time) = plain (eagainStation s time)
-outcome s n (tos time byte) = signals (tosStation s time byte)
-outcome s n (nacks time count) = plain (nacksStation s time count)
-outcome s n (rtt time peer sample) = plain (rttStation s time peer sample)
-outcome s n (tick time) = allots (tickedStation s time)
+outcome s n (control time steering) = controlled s time steering
 outcome s n (handIn time i class key bytes lent) = plain (handedStation s (lentLength n lent) time i class key (length bytes))
 outcome s n (send time i lent) = attempts (sentStation s (lentLength n lent) time i)
-outcome s n (setRate time rate) = allots (ratedStation s time rate)
 
 -- The pool in place once a call was lent one: a pool too short is turned down, and the one before it stays.
 unfoldable pub inPlace : Station → Lent → List ℕ → List ℕ
@@ -100,26 +108,16 @@ inPlace s (instead other) pool = cond (isShort (length other) (slotsNeeded (limi
 
 abbrev pub lentIn : Call → Lent
 lentIn (register time id class) = owed
-lentIn (eagain time) = owed
-lentIn (tos time byte) = owed
-lentIn (nacks time count) = owed
-lentIn (rtt time peer sample) = owed
-lentIn (tick time) = owed
+lentIn (control time steering) = owed
 lentIn (handIn time i class key bytes lent) = lent
 lentIn (send time i lent) = lent
-lentIn (setRate time rate) = owed
 
 -- what a call writes in a pool, where the last call left n bytes
 unfoldable pub written : Station → ℕ → Call → List ℕ → List ℕ
 written s n (register time id class) pool = pool
-written s n (eagain time) pool = pool
-written s n (tos time byte) pool = pool
-written s n (nacks time count) pool = pool
-written s n (rtt time peer sample) pool = pool
-written s n (tick time) pool = pool
+written s n (control time steering) pool = pool
 written s n (handIn time i class key bytes lent) pool = poolHanded s (lentLength n lent) time i class key bytes (length bytes) pool
 written s n (send time i lent) pool = pool
-written s n (setRate time rate) pool = pool
 
 -- the record that a send attempt on pacer i shows of a pool
 abbrev pub shownBy : Station → ℕ → Reply → List ℕ → List ℕ

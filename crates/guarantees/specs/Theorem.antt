@@ -29,7 +29,7 @@ use Rattle.control.specs.declared.budget_allocator.WriterInfo.{WriterInfo}
 use Rattle.station.specs.Station.{writerAt, pacerIn, limitsIn, slotsNeeded, madeStation, enqueuedIn}
 use Rattle.station.specs.declared.station.Station.{Station}
 use Rattle.guarantees.specs.Book.{Queue, Page, Book, emptyPage, emptyBook, noted, sentIn}
-use Rattle.guarantees.specs.Calls.{Lent, owed, instead, Call, register, eagain, tos, nacks, rtt, tick, handIn, send, setRate, Reply, nothing, signal, unchanged, updates, action, Outcome, shownBy, State, stateOf, inPlace, lentIn, answered, after, run, answers}
+use Rattle.guarantees.specs.Calls.{Lent, owed, instead, Call, register, control, handIn, send, Reply, nothing, signal, unchanged, updates, action, Outcome, shownBy, State, stateOf, inPlace, lentIn, answered, after, run, answers}
 
 -- ==== lists of calls, with the book kept
 
@@ -157,13 +157,8 @@ ReplyShows b (updates rows) = Unit {0}
 abbrev pub Sends : (ℕ → Type 0) → Call → Type 0
 Sends P (send time i lent) = P i
 Sends P (register time id class) = Unit {0}
-Sends P (eagain time) = Unit {0}
-Sends P (tos time byte) = Unit {0}
-Sends P (nacks time count) = Unit {0}
-Sends P (rtt time peer sample) = Unit {0}
-Sends P (tick time) = Unit {0}
+Sends P (control time steering) = Unit {0}
 Sends P (handIn time i class key bytes lent) = Unit {0}
-Sends P (setRate time rate) = Unit {0}
 
 unfoldable pub Shown : Kept → Call → Type 0
 Shown k x = Sends (λ i. ReplyShows (k .book i) (answered (k .state) x .reply)) x
@@ -223,14 +218,9 @@ isUpdates (action a) = false
 -- whether a call registers pacer i
 abbrev pub begins : ℕ → Station → Call → ℕ → Bool
 begins i s (register time id class) answer = cond (eqb answer accepted) (eqb i (s .roster .count)) false
-begins i s (eagain time) answer = false
-begins i s (tos time byte) answer = false
-begins i s (nacks time count) answer = false
-begins i s (rtt time peer sample) answer = false
-begins i s (tick time) answer = false
+begins i s (control time steering) answer = false
 begins i s (handIn time j class key bytes lent) answer = false
 begins i s (send time j lent) answer = false
-begins i s (setRate time rate) answer = false
 
 -- whether a call sets the rate of pacer i: "A pacer starts at `min_rate_bps`, which counts as a rate setting; so does each budget update"
 unfoldable pub setsBy : ℕ → Station → Call → Outcome → Bool
@@ -287,13 +277,8 @@ paidIn (updates rows) = 0
 unfoldable pub paidBy : ℕ → Call → Reply → ℕ
 paidBy i (send time j lent) reply = cond (eqb j i) (paidIn reply) 0
 paidBy i (register time id class) reply = 0
-paidBy i (eagain time) reply = 0
-paidBy i (tos time byte) reply = 0
-paidBy i (nacks time count) reply = 0
-paidBy i (rtt time peer sample) reply = 0
-paidBy i (tick time) reply = 0
+paidBy i (control time steering) reply = 0
 paidBy i (handIn time j class key bytes lent) reply = 0
-paidBy i (setRate time rate) reply = 0
 
 unfoldable pub paid : ℕ → State → List Call → ℕ
 paid i s [] = 0
@@ -370,14 +355,9 @@ blankLent (instead pool) = instead (blank pool)
 
 unfoldable pub blanked : Call → Call
 blanked (register time id class) = register time id class
-blanked (eagain time) = eagain time
-blanked (tos time byte) = tos time byte
-blanked (nacks time count) = nacks time count
-blanked (rtt time peer sample) = rtt time peer sample
-blanked (tick time) = tick time
+blanked (control time steering) = control time steering
 blanked (handIn time i class key bytes lent) = handIn time i class key (blank bytes) (blankLent lent)
 blanked (send time i lent) = send time i (blankLent lent)
-blanked (setRate time rate) = setRate time rate
 
 -- the same byte stands in place k of two pools
 abbrev pub SameAt : ℕ → List ℕ → List ℕ → Type 0
@@ -397,28 +377,18 @@ putAt s i c key = slotStart (limitsIn s) i c (enqueuedIn s i c key .kept .slot)
 -- the bytes of the record that a call hands in
 abbrev pub bytesIn : Call → List ℕ
 bytesIn (register time id class) = []
-bytesIn (eagain time) = []
-bytesIn (tos time byte) = []
-bytesIn (nacks time count) = []
-bytesIn (rtt time peer sample) = []
-bytesIn (tick time) = []
+bytesIn (control time steering) = []
 bytesIn (handIn time i class key bytes lent) = bytes
 bytesIn (send time i lent) = []
-bytesIn (setRate time rate) = []
 
 -- a record that is accepted has the byte of the other list's record where it is put in place k
 abbrev pub PutSame : ℕ → State → Call → Call → Type 0
 PutSame k s (register time id class) y = Unit {0}
-PutSame k s (eagain time) y = Unit {0}
-PutSame k s (tos time byte) y = Unit {0}
-PutSame k s (nacks time count) y = Unit {0}
-PutSame k s (rtt time peer sample) y = Unit {0}
-PutSame k s (tick time) y = Unit {0}
+PutSame k s (control time steering) y = Unit {0}
 PutSame k s (handIn time i c key bytes lent) y =
     answered s (handIn time i c key bytes lent) .answer ≡ accepted
     → (j : ℕ) → j < length bytes → k ≡ putAt (s .station) i c key + j → getD bytes j 0 ≡ getD (bytesIn y) j 0
 PutSame k s (send time i lent) y = Unit {0}
-PutSame k s (setRate time rate) y = Unit {0}
 
 -- no call of two lists brings bytes that differ to place k
 unfoldable pub AllSame : ℕ → State → List Call → List Call → Type 0
