@@ -256,7 +256,7 @@ send-refill s ok time i lent taken =
     taken
     (ticking-outcome (s .station) ok (length (s .pool)) (send time i lent))
 
--- "From each setting of a pacer's rate to any send before the next"
+-- from each setting of a pacer's rate to any accepted send attempt before the next
 pub allowance : (start : State) → Ticking (start .station) → (calls : List Call) → Allowance start calls
 unfolding run after
 allowance start ok calls i before set between time lent rest whole sets unset taken =

@@ -3,7 +3,7 @@
 use Prim.Native.Nat.{ℕ, _+_, _-_, _*_, _^_, _≤_, _<_, min}
 use mathlib.Core.Bool.{Bool, true, false, true≢false, cond}
 use mathlib.Core.List.{List}
-use mathlib.Core.Logic.{_⊎_, inl, inr}
+use mathlib.Core.Logic.{_≢_, _⊎_, inl, inr}
 use mathlib.Core.Path.{_≡_, refl, sym, ap, subst, _∙_}
 use native.Mathlib.Nat.{mul-le-mul-left}
 use native.Mathlib.Omega.{arith}
@@ -273,6 +273,10 @@ once-refilled : {last : ℕ} {b x : TokenBucket} (time : ℕ) → Paced last b �
 once-refilled time h (inl e) = inr (ap (λ (y : TokenBucket). refilled y time) e)
 once-refilled {b = b} time h (inr e) = inr (ap (λ (y : TokenBucket). refilled y time) e ∙ refilled-again b time h)
 
+-- a credit above 0 is for a time after the refill time
+refill-moves : {last : ℕ} (b : TokenBucket) (time : ℕ) → Paced last b → 0 < earned b time → b .«last_refill» ≢ time
+refill-moves b time h e z = let n : earned b time ≡ 0 = earned-none b time (h .least) (h .most) (omega arith) in omega arith
+
 -- a refill is covered by the time since the refill time, and a byte
 covers-refilled : {last : ℕ} (b : TokenBucket) (time : ℕ) → Paced last b → last ≤ time → Covers b (refilled b time) 0 (refillOf b (refilled b time))
 unfolding refilled
@@ -280,9 +284,6 @@ covers-refilled b time h l =
     by-test (λ (x : TokenBucket). Covers b x 0 (refillOf b x)) (ltb 0 (earned b time)) (λ e. credits (ltb-true _ _ e))
     (λ e. rw (refill-none b) (covers-none b))
   where
-    moves : 0 < earned b time → b .«last_refill» ≡ time → ⊥
-    moves e z = let n : earned b time ≡ 0 = earned-none b time (h .least) (h .most) (omega arith) in omega arith
-
     sum : (tokens n cap rate last time : ℕ) → last ≤ time → min n cap * 1000000000 ≤ rate * (time - last) + 1000000000
         → (0 + min (tokens + n) cap) * 1000000000 + rate * last ≤ (tokens + 1) * 1000000000 + rate * time
     sum tokens n cap rate last time l m =
@@ -291,7 +292,7 @@ covers-refilled b time h l =
 
     credits : 0 < earned b time → Covers b (bucket.credited b time (earned b time)) 0 (refillOf b (bucket.credited b time (earned b time)))
     credits e =
-        rw (ne-eqb (b .«last_refill») time (moves e))
+        rw (ne-eqb (b .«last_refill») time (refill-moves b time h e))
         (record {
           rate = refl;
           later = omega (arith, h .before);
@@ -299,6 +300,15 @@ covers-refilled b time h l =
               sum (b .tokens) (earned b time) (b .capacity) (b .«rate_bps») (b .«last_refill») time (omega (arith, h .before))
               (credit-at-most (time - b .«last_refill») (b .«rate_bps») (b .capacity) (h .least) (h .most) (omega (arith, h .most, h .burst)));
         })
+
+-- the refill time moves exactly where the credit is above 0
+pub refill-credit : {last : ℕ} (b : TokenBucket) (time : ℕ) → Paced last b → refillOf b (refilled b time) ≡ cond (ltb 0 (earned b time)) 1 0
+unfolding refilled
+refill-credit b time h = go (ltb 0 (earned b time)) refl
+  where
+    go : (t : Bool) → ltb 0 (earned b time) ≡ t → refillOf b (cond t (bucket.credited b time (earned b time)) b) ≡ cond t 1 0
+    go true e = rw (ne-eqb (b .«last_refill») time (refill-moves b time h (ltb-true _ _ e))) refl
+    go false e = refill-none b
 
 covers-once : {last : ℕ} {b x : TokenBucket} (time : ℕ) → Paced last b → last ≤ time → Once b time x → Covers b x 0 (refillOf b x)
 covers-once {b = b} time h t (inl e) = rw (refill-same (sym e)) (covers-same (sym e))

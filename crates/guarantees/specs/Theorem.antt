@@ -75,7 +75,7 @@ unfoldable pub fates : ℕ → Queue → ℕ
 fates n q =
     weigh (numbered n) (q .sent) + weigh (numbered n) (q .pushedOut) + weigh (numbered n) (q .replaced) + weigh (numbered n) (q .waiting)
 
--- "each accepted record has exactly one fate in the book"
+-- each accepted record has exactly one fate in the book
 pub record OneFate (q : Queue) : Type 0 where
   -- its number stands once among the four
   pub exactly-one : (x : Held) → List·Memᴰ x (q .accepted) → fates (x .entry .sequence) q ≡ 1
@@ -284,7 +284,7 @@ unfoldable pub paid : ℕ → State → List Call → ℕ
 paid i s [] = 0
 paid i s (x ∷ xs) = paidBy i x (answered s x .reply) + paid i (after s x) xs
 
--- a refill, that is a credit above 0, moves the refill time, and nothing else does
+-- "refills (credits above 0)": a credit above 0 moves the refill time, and nothing else does where the rate is not set
 unfoldable pub refillsBy : ℕ → State → Call → ℕ
 refillsBy i s x = cond (eqb (bucketIn s i .«last_refill») (bucketIn (after s x) i .«last_refill»)) 0 1
 
@@ -299,7 +299,7 @@ WithinAllowance i s calls time =
     paid i s calls * 1000000000
     ≤ (bucketIn s i .tokens + refills i s calls) * 1000000000 + bucketIn s i .«rate_bps» * (time - bucketIn s i .«last_refill»)
 
--- "From each setting of a pacer's rate to any send before the next"
+-- from each setting of a pacer's rate to any accepted send attempt before the next
 abbrev pub Allowance : State → List Call → Type 0
 Allowance start calls =
     (i : ℕ) (before : List Call) (set : Call) (between : List Call) (time : ℕ) (lent : Lent) (rest : List Call)
@@ -331,7 +331,8 @@ pub record HeadGoes (b : Page) (bucket : TokenBucket) (wait : ℕ) (reply : Repl
   pub slot : ℕ
   pub goes : reply ≡ action (Send class slot (head .entry .sequence) (head .entry .length) false)
 
--- the station and the book after the calls before a list's rest, and the station after a send attempt more
+-- where a wait was told and the next accepted call is that pacer's send attempt a nanosecond or more after it, the head goes for which it
+-- was told; calls that are turned down may lie between
 abbrev pub Waits : Limits → Kept → List Call → Type 0
 Waits m start calls =
     (i : ℕ) (before : List Call) (time : ℕ) (lent : Lent) (between : List Call) (later : ℕ) (lent′ : Lent) (rest : List Call) (wait : ℕ)
@@ -396,14 +397,14 @@ AllSame k s [] ys = Unit {0}
 AllSame k s (x ∷ xs) [] = Unit {0}
 AllSame k s (x ∷ xs) (y ∷ ys) = LentSame k (s .station) (lentIn x) (lentIn y) × (PutSame k s x y × AllSame k (after s x) xs ys)
 
--- "gets the same answers and leaves all the same, save the bytes handed out and the pool's where bytes that differ lay or were put"
+-- the same answers, and all left the same but for the pool's places where bytes that differ lay or were put
 pub record Alike (s t : State) (xs ys : List Call) : Type 0 where
   pub same-answers : answers s xs ≡ answers t ys
   pub same-station : run s xs .station ≡ run t ys .station
   pub same-length : length (run s xs .pool) ≡ length (run t ys .pool)
   pub same-bytes : (k : ℕ) → SameAt k (s .pool) (t .pool) → AllSame k s xs ys → SameAt k (run s xs .pool) (run t ys .pool)
 
--- "A second list, alike in all, record lengths too, but record bytes and the pool's first bytes"
+-- a second list, alike in all, record lengths too, but record bytes, the bytes of pools lent and the first pool's bytes
 abbrev pub Contents : State → List Call → Type 0
 Contents start calls =
     (pool′ : List ℕ) (calls′ : List Call) → length (start .pool) ≡ length pool′ → map blanked calls ≡ map blanked calls′
