@@ -1,20 +1,22 @@
--- One short list of calls on a new station, worked through: what each call answers, and the book after them all (document 01, "What the
--- port owes on paper"). Definitions only; `proofs/Worked.antt` has the checker compute both.
+-- Two short lists of calls on a new station, worked through: what each call answers, and the book after them all (document 01, "What the
+-- port owes on paper"); and document 01's whole tape. Definitions only; `proofs/Worked.antt` has the checker compute them.
 use Prim.Native.Nat.{ℕ}
 use mathlib.Core.List.{List, [], _∷_, map}
 use mathlib.Core.Path.{_≡_}
 use lib.ListN.{replicate}
 use Rattle.config.specs.Config.{defaults, settingsWith}
 use Rattle.config.specs.declared.config.CongestionConfig.{CongestionConfig}
+use Rattle.config.specs.declared.config.EcnMode.the-variants.{Opportunistic}
 use Rattle.config.specs.declared.config.Priority.the-variants.{P0, P1, P2}
 use Rattle.pacing.specs.Entries.{keyOfHashes, noKey}
 use Rattle.pacing.specs.Pool.{bytesOf, limitsOf}
 use Rattle.pacing.specs.Records.{Held}
 use Rattle.pacing.specs.WriterPacer.{actionValues}
 use Rattle.pacing.specs.declared.coalescing.InstanceKey.{InstanceKey}
+use Rattle.control.specs.declared.budget_allocator.WriterInfo.{WriterInfo}
 use Rattle.station.specs.Station.{slotsNeeded}
 use Rattle.guarantees.specs.Book.{Queue, Page}
-use Rattle.guarantees.specs.Calls.{owed, Call, register, handIn, send, Reply, nothing, signal, unchanged, updates, action, Answer, answers}
+use Rattle.guarantees.specs.Calls.{owed, eagain, tick, Call, register, control, handIn, send, Reply, nothing, signal, unchanged, updates, action, Answer, answers}
 use Rattle.guarantees.specs.Theorem.{Kept, keeps, started}
 
 -- ---- the station
@@ -67,7 +69,8 @@ calls =
 
 -- ---- what is told
 
--- a call's number, and the values of a send attempt: class, sequence and length of a sent record, or the nanoseconds of a wait
+-- a call's number and its values: of a send attempt class, sequence and length of a sent record, or the nanoseconds of a wait; of a tick
+-- or rate setting each update's id, previous and new budget
 pub record Seen : Type 0 where
   pub answer : ℕ
   pub values : List ℕ
@@ -75,11 +78,15 @@ pub record Seen : Type 0 where
 abbrev pub seen : ℕ → List ℕ → Seen
 seen answer values = record { answer = answer; values = values }
 
+abbrev pub budgetsOf : List WriterInfo → List ℕ
+budgetsOf [] = []
+budgetsOf (w ∷ ws) = w .id ∷ w .«previous_bps» ∷ w .«budget_bps» ∷ budgetsOf ws
+
 abbrev pub valuesOf : Reply → List ℕ
 valuesOf nothing = []
 valuesOf (signal b) = []
 valuesOf unchanged = []
-valuesOf (updates rows) = []
+valuesOf (updates rows) = budgetsOf rows
 valuesOf (action a) = actionValues a
 
 abbrev pub seenOf : Answer → Seen
@@ -149,3 +156,25 @@ Worked =
     × (listsOf (page .queues P1) ≡ expectedP1)
     × (listsOf (page .queues P2) ≡ expectedP2)
     × (map (λ (x : Held). x .bytes) (page .queues P2 .waiting) ≡ newer ∷ [])
+
+-- ---- document 01's whole tape, as calls
+
+-- "Defaults hold, with queue limits 2, 4, 2 and ECN opportunistic."
+abbrev pub tapeSettings : CongestionConfig
+tapeSettings = settingsWith defaults (defaults .enabled) 2 4 2 Opportunistic
+
+abbrev pub tapeStart : Kept
+tapeStart = started tapeSettings 0 (replicate (bytesOf (slotsNeeded (limitsOf tapeSettings))) 0)
+
+-- the words 20000004 20000009 30000000 100186A0 40000000 60000000
+abbrev pub tapeCalls : List Call
+tapeCalls =
+    register 0 1 P0 ∷ register 0 2 P1 ∷ control 0 eagain ∷ control 100000000 tick ∷ send 100000000 0 owed ∷ []
+
+-- "4 0 2 1:0:10000000 2:0:28000000" and "5 0 empty"
+abbrev pub tapeExpected : List Seen
+tapeExpected =
+    seen 0 [] ∷ seen 0 [] ∷ seen 0 [] ∷ seen 0 (1 ∷ 0 ∷ 10000000 ∷ 2 ∷ 0 ∷ 28000000 ∷ []) ∷ seen 0 [] ∷ []
+
+abbrev pub TapeWorked : Type 0
+TapeWorked = map seenOf (answers (tapeStart .state) tapeCalls) ≡ tapeExpected
