@@ -175,7 +175,7 @@ abbrev placeBy : WriterInfo → List WriterInfo → ℕ → ℕ
 placeBy w rows n = first (λ (k : ℕ). comesBefore w (rowAt rows k)) n
 
 -- the place of an id among the first n rows
-abbrev placeWith : ℕ → List WriterInfo → ℕ → ℕ
+abbrev pub placeWith : ℕ → List WriterInfo → ℕ → ℕ
 placeWith id rows n = first (λ (k : ℕ). eqb (rowAt rows k .id) id) n
 
 -- the rows and a blank one
@@ -233,7 +233,7 @@ rows-mapped f zero rows = refl
 rows-mapped f (suc n) [] = refl
 rows-mapped f (suc n) (x ∷ xs) = ap (λ (l : List _). f x ∷ l) (rows-mapped f n xs)
 
-length-mapped : {A : Type 0} (f : A → A) (n : ℕ) (rows : List A) → length (map f (take n rows) ++ drop n rows) ≡ length rows
+pub length-mapped : {A : Type 0} (f : A → A) (n : ℕ) (rows : List A) → length (map f (take n rows) ++ drop n rows) ≡ length rows
 length-mapped f zero rows = refl
 length-mapped f (suc n) [] = refl
 length-mapped f (suc n) (x ∷ xs) = ap suc (length-mapped f n xs)

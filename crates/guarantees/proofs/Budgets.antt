@@ -18,7 +18,7 @@ use Rattle.pacing.specs.WriterPacer.{rateOf, rateSet}
 use Rattle.pacing.specs.declared.pool.Limits.{Limits}
 use Rattle.pacing.specs.declared.writer_pacer.PacerConfig.{PacerConfig}
 use Rattle.pacing.specs.declared.writer_pacer.PacerCore.{PacerCore}
-use Rattle.control.proofs.Writers.{registered-writers, allotted-writers, in-order-from}
+use Rattle.control.proofs.Writers.{placeWith, registered-writers, allotted-writers, in-order-from}
 use Rattle.control.specs.BudgetAllocator as allocator
 use Rattle.control.specs.BudgetAllocator.{newWriter, rowAt, comesBefore, takenOf, writersOf, placeOf, entered, isKnown, without, fullFor, sharesOf, withBudget, allottedTable, one, registered, reallocated}
 use Rattle.control.specs.Controller.{registeredIn}
@@ -67,10 +67,6 @@ lacks-budgets id s [] none = tt
 lacks-budgets id s (w ∷ ws) none = (none .0, lacks-budgets id s ws (none .1))
 
 -- ---- rows of the table
-
--- the place of an id among the first n rows
-abbrev placeWith : ℕ → List WriterInfo → ℕ → ℕ
-placeWith id rows n = first (λ (k : ℕ). eqb (rowAt rows k .id) id) n
 
 -- where the search ends without a row, none has the id
 lacks-rows : (id : ℕ) (rows : List WriterInfo) (n : ℕ) → n ≤ placeWith id rows n → Lacks id (take n rows)

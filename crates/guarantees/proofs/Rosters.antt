@@ -10,6 +10,7 @@ use lib.Seq.{getD-set-same, getD-set-other}
 use Rattle.numeric.proofs.Choice.{by-test}
 use Rattle.pacing.specs.declared.writer_pacer.PacerConfig.{PacerConfig}
 use Rattle.pacing.specs.declared.writer_pacer.PacerCore.{PacerCore}
+use Rattle.control.proofs.Writers.{length-mapped}
 use Rattle.control.specs.BudgetAllocator.{isKnown}
 use Rattle.control.specs.declared.budget_allocator.WriterTable.{WriterTable}
 use Rattle.station.specs.Station.{writerOf, noWriter, writerAt, takenOf, joined, withPacer, budgeted, budgetedAll}
@@ -77,12 +78,6 @@ mapped-at f (x ∷ l) zero i d h k = absurd (omega arith)
 mapped-at f (x ∷ l) (suc n) zero d h k = refl
 mapped-at f (x ∷ l) (suc n) (suc i) d h k = mapped-at f l n i d (omega arith) (omega arith)
 
-length-mapped : {A : Type 0} (f : A → A) (l : List A) (n : ℕ) → length (map f (take n l) ++ drop n l) ≡ length l
-length-mapped f [] zero = refl
-length-mapped f [] (suc n) = refl
-length-mapped f (x ∷ l) zero = refl
-length-mapped f (x ∷ l) (suc n) = ap suc (length-mapped f l n)
-
 pub id-budgeted : (c : PacerConfig) (time : ℕ) (t : WriterTable) (w : Writer) → budgeted c time t w .id ≡ w .id
 unfolding budgeted
 id-budgeted c time t w = by-test (λ (x : Writer). x .id ≡ w .id) (isKnown t (w .id)) (λ e. refl) (λ e. refl)
@@ -99,4 +94,4 @@ count-budgeted c time t r = refl
 
 pub seated-budgeted : (c : PacerConfig) (time : ℕ) (t : WriterTable) (r : Roster) → Seated r → Seated (budgetedAll c time t r)
 unfolding budgetedAll
-seated-budgeted c time t r ok = record { places = length-mapped (budgeted c time t) (r .writers) (takenOf r) ∙ ok .places; fits = ok .fits }
+seated-budgeted c time t r ok = record { places = length-mapped (budgeted c time t) (takenOf r) (r .writers) ∙ ok .places; fits = ok .fits }
