@@ -10,6 +10,7 @@ use native.Mathlib.Omega.{arith}
 use borrow.Author.Tests.{eq-eqb, ne-eqb, eqb-false}
 use lib.Dec.{eqb}
 use lib.ListN.{length}
+use Rattle.config.specs.Ledger.{moved}
 use Rattle.config.specs.Refusal.{accepted}
 use Rattle.config.specs.declared.config.Priority.{Priority}
 use Rattle.numeric.proofs.Choice.{by-test}
@@ -20,7 +21,7 @@ use Rattle.pacing.specs.declared.writer_pacer.PacerCore.{PacerCore}
 use Rattle.control.specs.BudgetAllocator.{isKnown}
 use Rattle.control.specs.declared.budget_allocator.WriterTable.{WriterTable}
 use Rattle.control.specs.declared.controller.CongestionController.{CongestionController}
-use Rattle.station.specs.Station.{writerOf, writerAt, pacerIn, withPacer, joined, budgeted, budgetedAll, steered, allotted, registerLeaves, firstPacer, paced, enqueuedIn, attemptIn}
+use Rattle.station.specs.Station.{stationOf, writerOf, writerAt, pacerIn, withPacer, joined, budgeted, budgetedAll, steered, allotted, registerLeaves, firstPacer, paced, enqueuedIn, attemptIn}
 use Rattle.station.specs.declared.station.Roster.{Roster}
 use Rattle.station.specs.declared.station.Station.{Station}
 use Rattle.station.specs.declared.station.Writer.{Writer}
@@ -63,33 +64,29 @@ module _ (s : Station) (ok : Ticking s) where
   later : (time : ℕ) → Timed s time → (i : ℕ) → i < s .roster .count → Paced time (pacerIn s i .tokens)
   later time h i lo = paced-later (ok .buckets i lo) (h .ahead)
 
+  -- another controller, roster and words
+  ticking-roster :
+      (time : ℕ) (x : CongestionController) (r : Roster) (words : List ℕ) → Seated r
+      → ((i : ℕ) → i < r .count → Paced time (writerAt r i .pacer .tokens)) → Ticking (stationOf (moved (s .ledger) time) (s .config) x r words)
+  ticking-roster time x r words seated buckets =
+      record { least = ok .least; ordered = ok .ordered; most = ok .most; seated = seated; buckets = buckets }
+
   ticking-steered : (time : ℕ) → Timed s time → (x : CongestionController) → Ticking (steered s time x)
-  ticking-steered time h x =
-      record { least = ok .least; ordered = ok .ordered; most = ok .most; seated = ok .seated; buckets = later time h }
+  ticking-steered time h x = ticking-roster time x (s .roster) (s .words) (ok .seated) (later time h)
 
   ticking-allotted : (time : ℕ) → Timed s time → (x : CongestionController) → Ticking (allotted s time x)
   unfolding budgetedAll
   ticking-allotted time h x =
-      record {
-        least = ok .least;
-        ordered = ok .ordered;
-        most = ok .most;
-        seated = seated-budgeted (s .config .pacer) time (x .allocator .table) (s .roster) (ok .seated);
-        buckets = λ i lo.
-            subst (λ (w : Writer). Paced time (w .pacer .tokens)) (sym (budgeted-at (s .config .pacer) time (x .allocator .table) (s .roster) i (ok .seated) lo))
-            (paced-budgeted (s .config .pacer) time (s .ledger .last) (x .allocator .table) (writerAt (s .roster) i) (ok .least) (ok .ordered) (ok .most) (ok .buckets i lo) (h .ahead));
-      }
+      ticking-roster time x _ (s .words) (seated-budgeted (s .config .pacer) time (x .allocator .table) (s .roster) (ok .seated))
+      (λ i lo.
+      subst (λ (w : Writer). Paced time (w .pacer .tokens)) (sym (budgeted-at (s .config .pacer) time (x .allocator .table) (s .roster) i (ok .seated) lo))
+      (paced-budgeted (s .config .pacer) time (s .ledger .last) (x .allocator .table) (writerAt (s .roster) i) (ok .least) (ok .ordered) (ok .most) (ok .buckets i lo) (h .ahead)))
 
   ticking-registered : (time id : ℕ) (class : Priority) → Timed s time → s .roster .count < 4 → Ticking (registerLeaves s time id class)
   unfolding registerLeaves joined
   ticking-registered time id class h lo =
-      record {
-        least = ok .least;
-        ordered = ok .ordered;
-        most = ok .most;
-        seated = seated-joined (s .roster) w (ok .seated) lo;
-        buckets = λ i below. go i below (ℕ-discrete i (s .roster .count));
-      }
+      ticking-roster time _ (joined (s .roster) w) (s .words) (seated-joined (s .roster) w (ok .seated) lo)
+      (λ i below. go i below (ℕ-discrete i (s .roster .count)))
     where
       w : Writer
       w = writerOf id (firstPacer (s .config .pacer) time)
@@ -105,15 +102,10 @@ module _ (s : Station) (ok : Ticking s) where
   ticking-paced :
       (time i : ℕ) (p : PacerCore) (words : List ℕ) → Timed s time → i < s .roster .count → Paced time (p .tokens) → Ticking (paced s time i p words)
   ticking-paced time i p words h lo own =
-      record {
-        least = ok .least;
-        ordered = ok .ordered;
-        most = ok .most;
-        seated = seated-with (s .roster) i p (ok .seated);
-        buckets = λ j below.
-            by-seat (λ (q : PacerCore). Paced time (q .tokens)) (s .roster) i p j (ok .seated) lo (λ e. own)
-            (λ ne. later time h j (rw (← count-with (s .roster) i p) below));
-      }
+      ticking-roster time (s .controller) (withPacer (s .roster) i p) words (seated-with (s .roster) i p (ok .seated))
+      (λ j below.
+      by-seat (λ (q : PacerCore). Paced time (q .tokens)) (s .roster) i p j (ok .seated) lo (λ e. own)
+      (λ ne. later time h j (rw (← count-with (s .roster) i p) below)))
 
   pub ticking-outcome : (n : ℕ) (x : Call) → Ticking (outcome s n x .station)
   ticking-outcome n x = by-case s n (λ y o. Ticking (o .station)) cases x

@@ -37,7 +37,8 @@ use Rattle.pacing.specs.declared.writer_pacer.SendAction.the-variants.{Send, Em
 use Rattle.control.specs.BudgetAllocator.{isKnown}
 use Rattle.control.specs.declared.budget_allocator.WriterTable.{WriterTable}
 use Rattle.control.specs.declared.controller.CongestionController.{CongestionController}
-use Rattle.station.specs.Station.{writerOf, writerAt, pacerIn, limitsIn, slotsNeeded, joined, budgeted, budgetedAll, steered, allotted, registerLeaves, firstPacer, paced, enqueuedIn, attemptIn}
+use Rattle.station.specs.Station.{stationOf, writerOf, writerAt, pacerIn, limitsIn, slotsNeeded, joined, budgeted, budgetedAll, steered, allotted, registerLeaves, firstPacer, paced, enqueuedIn, attemptIn}
+use Rattle.station.specs.declared.station.Roster.{Roster}
 use Rattle.station.specs.declared.station.Station.{Station}
 use Rattle.station.specs.declared.station.Writer.{Writer}
 use Rattle.guarantees.specs.Book.{Page, Book, emptyPage, withPage, Sent, none, one, sentAs, sentIn, handedBy, pageAfterSend, noted}
@@ -199,11 +200,15 @@ module _ (m : Limits) (g : List ℕ) (s : Station) (b : Book) (ok : Sound m g s 
   used-next : (time : ℕ) → Timed s time → (i : ℕ) → b i .next ≤ moved (s .ledger) time .calls
   used-next time h i = omega (arith, h .room, ok .used i)
 
-  -- the controller alone
-  sound-steered : (time : ℕ) → Timed s time → (x : CongestionController) → Sound m g (steered s time x) b
-  sound-steered time h x =
+  -- another controller and roster, with no fewer writers; words, pool and book stay
+  sound-roster :
+      (time : ℕ) → Timed s time → (x : CongestionController) (r : Roster) → Seated r → s .roster .count ≤ r .count
+      → ((i : ℕ) → i < r .count → Matches m i (partsOf (writerAt r i .pacer) (s .words) g) (pageView (b i)))
+      → ((i : ℕ) → i < r .count → Tallied (s .words) i (b i))
+      → Sound m g (stationOf (moved (s .ledger) time) (s .config) x r (s .words)) b
+  sound-roster time h x r seated more pages tallies =
       record {
-        seated = ok .seated;
+        seated = seated;
         long = ok .long;
         same-limits = ok .same-limits;
         limited = ok .limited;
@@ -211,12 +216,16 @@ module _ (m : Limits) (g : List ℕ) (s : Station) (b : Book) (ok : Sound m g s 
         counted = counted-next time h;
         used = used-next time h;
         balanced = ok .balanced;
-        pages = ok .pages;
-        tallies = ok .tallies;
-        unregistered = ok .unregistered;
+        pages = pages;
+        tallies = tallies;
+        unregistered = λ i above. ok .unregistered i (omega arith);
         storage = ok .storage;
-        noughts = ok .noughts;
+        noughts = λ i above. ok .noughts i (omega arith);
       }
+
+  -- the controller alone
+  sound-steered : (time : ℕ) → Timed s time → (x : CongestionController) → Sound m g (steered s time x) b
+  sound-steered time h x = sound-roster time h x (s .roster) (ok .seated) (omega arith) (ok .pages) (ok .tallies)
 
   -- a budget touches neither queues nor numbers
   budget-queues : (c : PacerConfig) (time : ℕ) (t : WriterTable) (w : Writer) → budgeted c time t w .pacer .queues ≡ w .pacer .queues
@@ -230,25 +239,13 @@ module _ (m : Limits) (g : List ℕ) (s : Station) (b : Book) (ok : Sound m g s 
   sound-allotted : (time : ℕ) → Timed s time → (x : CongestionController) → Sound m g (allotted s time x) b
   unfolding budgetedAll
   sound-allotted time h x =
-      record {
-        seated = seated-budgeted (s .config .pacer) time (x .allocator .table) (s .roster) (ok .seated);
-        long = ok .long;
-        same-limits = ok .same-limits;
-        limited = ok .limited;
-        wide = ok .wide;
-        counted = counted-next time h;
-        used = used-next time h;
-        balanced = ok .balanced;
-        pages = λ i lo.
-            let at = budgeted-at (s .config .pacer) time (x .allocator .table) (s .roster) i (ok .seated) lo in
-            stays m i (partsOf (pacerIn s i) (s .words) g) (pageView (b i)) (ok .pages i lo) (pacerIn (allotted s time x) i) (s .words) (noted-none i (s .words))
-            (ap (λ (w : Writer). w .pacer .queues) at ∙ budget-queues (s .config .pacer) time (x .allocator .table) (writerAt (s .roster) i))
-            (ap (λ (w : Writer). w .pacer .«next_sequence») at ∙ budget-next (s .config .pacer) time (x .allocator .table) (writerAt (s .roster) i));
-        tallies = ok .tallies;
-        unregistered = ok .unregistered;
-        storage = ok .storage;
-        noughts = ok .noughts;
-      }
+      sound-roster time h x _ (seated-budgeted (s .config .pacer) time (x .allocator .table) (s .roster) (ok .seated)) (omega arith)
+      (λ i lo.
+      let at = budgeted-at (s .config .pacer) time (x .allocator .table) (s .roster) i (ok .seated) lo in
+      stays m i (partsOf (pacerIn s i) (s .words) g) (pageView (b i)) (ok .pages i lo) (pacerIn (allotted s time x) i) (s .words) (noted-none i (s .words))
+      (ap (λ (w : Writer). w .pacer .queues) at ∙ budget-queues (s .config .pacer) time (x .allocator .table) (writerAt (s .roster) i))
+      (ap (λ (w : Writer). w .pacer .«next_sequence») at ∙ budget-next (s .config .pacer) time (x .allocator .table) (writerAt (s .roster) i)))
+      (ok .tallies)
 
   -- a newcomer begins with an empty page
   tallied-new : s .roster .count < 4 → Tallied (s .words) (s .roster .count) emptyPage
@@ -270,21 +267,8 @@ module _ (m : Limits) (g : List ℕ) (s : Station) (b : Book) (ok : Sound m g s 
   sound-registered : (time id : ℕ) (class : Priority) → Timed s time → s .roster .count < 4 → Sound m g (registerLeaves s time id class) b
   unfolding registerLeaves joined
   sound-registered time id class h lo =
-      record {
-        seated = seated-joined (s .roster) w (ok .seated) lo;
-        long = ok .long;
-        same-limits = ok .same-limits;
-        limited = ok .limited;
-        wide = ok .wide;
-        counted = counted-next time h;
-        used = used-next time h;
-        balanced = ok .balanced;
-        pages = λ i below. page i below (ℕ-discrete i (s .roster .count));
-        tallies = λ i below. tally i below (ℕ-discrete i (s .roster .count));
-        unregistered = λ i above. ok .unregistered i (omega arith);
-        storage = ok .storage;
-        noughts = λ i above. ok .noughts i (omega arith);
-      }
+      sound-roster time h _ (joined (s .roster) w) (seated-joined (s .roster) w (ok .seated) lo) (omega arith)
+      (λ i below. page i below (ℕ-discrete i (s .roster .count))) (λ i below. tally i below (ℕ-discrete i (s .roster .count)))
     where
       w : Writer
       w = writerOf id (firstPacer (s .config .pacer) time)
