@@ -93,6 +93,7 @@ fated m g k ok =
       one-fate = λ i c. one-fate (k .book i .queues c) _ (ok .balanced i .balanced c);
       matched = λ i lo. matched m g (k .state .station) (k .book) ok i lo;
       unregistered = ok .unregistered;
+      exact = λ i n lo lt ne. omega (arith, ok .few i n (omega (arith, ok .seated .fits)) lt ne, ok .counted);
     }
 
 -- ---- what is shown

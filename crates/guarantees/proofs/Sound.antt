@@ -2,7 +2,7 @@
 -- counts are the lists' lengths, and no counter has come near its largest value. Assumes nothing.
 use Prim.Native.Nat.{ℕ, zero, suc, _+_, _*_, _^_, _≤_, _<_}
 use mathlib.Core.Bool.{false, cond}
-use mathlib.Core.List.{List}
+use mathlib.Core.List.{List, []}
 use mathlib.Core.Logic.{_≢_}
 use mathlib.Core.Path.{_≡_, refl, sym, ap, subst, _∙_}
 use native.Mathlib.Decide.{ℕ-discrete}
@@ -10,7 +10,7 @@ use native.Mathlib.Nat.{mul-le-mul-right, suc-mul}
 use native.Mathlib.Omega.{arith}
 use borrow.Author.Tests.{eq-eqb, ne-eqb}
 use lib.Dec.{eqb}
-use lib.ListN.{length}
+use lib.ListN.{length, getD}
 use Rattle.config.specs.Config.{classNumber}
 use Rattle.config.specs.Ledger.{moved}
 use Rattle.config.specs.declared.config.Priority.{Priority}
@@ -18,17 +18,19 @@ use Rattle.config.specs.declared.config.Priority.the-variants.{P0, P1, P2}
 use Rattle.numeric.proofs.Choice.{by-test}
 use Rattle.pacing.proofs.Counts.{count-handed, count-handed-other, count-sent, count-sent-other, length-handed, length-sent}
 use Rattle.pacing.proofs.Records.{Matches, Stored, Limited, stays, made-matches}
+use Rattle.pacing.proofs.Rings.{contents-first, length-contents, slot-below}
 use Rattle.pacing.proofs.Slots.{noted-none, noted-send, class-below}
 use Rattle.pacing.specs.Counts.{onlyAt, fateAdds, handAdds, sendAdds}
-use Rattle.pacing.specs.Entries.{pacerAt, mostOf}
+use Rattle.pacing.specs.Entries.{pacerAt, entryOf, noKey, mostOf}
 use Rattle.pacing.specs.Pool.{bytesOf, slotsOf}
-use Rattle.pacing.specs.Records.{limitIn, Parts, partsOf, Shows}
-use Rattle.pacing.specs.Ring.{isFull, fateNumber}
-use Rattle.pacing.specs.WriterPacer.{made, rateSet, countIn, handInStored, handInWritten, sendNoted}
+use Rattle.pacing.specs.Records.{Held, heldOf, held, waiting, limitIn, Parts, partsOf, Shows}
+use Rattle.pacing.specs.Ring.{slotAt, isFull, fateNumber}
+use Rattle.pacing.specs.WriterPacer.{ringOf, made, rateSet, countIn, handInStored, handInWritten, sendNoted}
 use Rattle.pacing.specs.declared.coalescing.InstanceKey.{InstanceKey}
 use Rattle.pacing.specs.declared.pool.Limits.{Limits}
 use Rattle.pacing.specs.declared.ring.Fate.{Fate}
 use Rattle.pacing.specs.declared.ring.Fate.the-variants.{Full, Joined, PushedOut, Replaced}
+use Rattle.pacing.specs.declared.ring.Ring.{Ring}
 use Rattle.pacing.specs.declared.writer_pacer.Attempt.{Attempt}
 use Rattle.pacing.specs.declared.writer_pacer.Enqueued.{Enqueued}
 use Rattle.pacing.specs.declared.writer_pacer.PacerConfig.{PacerConfig}
@@ -67,6 +69,8 @@ pub record Sound (m : Limits) (g : List ℕ) (s : Station) (b : Book) : Type 0 w
   pub unregistered : (i : ℕ) → s .roster .count ≤ i → b i ≡ emptyPage
   pub storage : (i : ℕ) → i < 4 → Stored m i (s .words) g
   pub noughts : (i : ℕ) → s .roster .count ≤ i → i < 4 → (k : ℕ) → k < 13 → countIn (s .words) i k ≡ 0
+  -- a call adds 1,474 to a count at most, a record's bytes and two more
+  pub few : (i k : ℕ) → i < 4 → k < 13 → k ≢ 2 → countIn (s .words) i k ≤ s .ledger .calls * 1474
 
 -- ---- the book's pages
 
@@ -106,63 +110,63 @@ noted-down m b (send time i lent) answer z t = page-back b i
 next-small : (m : Limits) (g : List ℕ) (s : Station) (b : Book) → Sound m g s b → (i : ℕ) → b i .next < 18446744073709551615
 next-small m g s b ok i = omega (arith, ok .used i, ok .counted)
 
--- a list of a fate is no longer than what was accepted
-module _ (p : Page) (ok : BalancedPage p) (c : Priority) where
-  lengths : length (p .queues c .accepted) ≡ length (p .queues c .sent) + length (p .queues c .pushedOut) + length (p .queues c .replaced) + length (p .queues c .waiting)
-  lengths =
-      sym (weigh-one (p .queues c .accepted))
-      ∙ ok .balanced c .whole (λ x. 1)
-      ∙ sums (weigh-one (p .queues c .sent)) (weigh-one (p .queues c .pushedOut)) (weigh-one (p .queues c .replaced)) (weigh-one (p .queues c .waiting))
-    where
-      sums : {a b c d a′ b′ c′ d′ : ℕ} → a ≡ a′ → b ≡ b′ → c ≡ c′ → d ≡ d′ → a + b + c + d ≡ a′ + b′ + c′ + d′
-      sums w x y z = omega arith
-
--- each count that stands for a list is at most the numbers used up
-small : (l : List ℕ) (i : ℕ) (p : Page) → Tallied l i p → BalancedPage p → (k : ℕ) → k < 10 → k ≢ 2 → countIn l i k ≤ p .next
-small l i p t ok zero h ne = omega (arith, t .replaced-p2, lengths p ok P2, ok .fewer P2)
-small l i p t ok (suc zero) h ne = omega (arith, t .pushed-p2, lengths p ok P2, ok .fewer P2)
-small l i p t ok (suc (suc zero)) h ne = absurd (ne refl)
-small l i p t ok (suc (suc (suc zero))) h ne = omega (arith, t .accepted P0, ok .fewer P0)
-small l i p t ok (suc (suc (suc (suc zero)))) h ne = omega (arith, t .accepted P1, ok .fewer P1)
-small l i p t ok (suc (suc (suc (suc (suc zero))))) h ne = omega (arith, t .accepted P2, ok .fewer P2)
-small l i p t ok (suc (suc (suc (suc (suc (suc zero)))))) h ne = omega (arith, t .sent P0, lengths p ok P0, ok .fewer P0)
-small l i p t ok (suc (suc (suc (suc (suc (suc (suc zero))))))) h ne = omega (arith, t .sent P1, lengths p ok P1, ok .fewer P1)
-small l i p t ok (suc (suc (suc (suc (suc (suc (suc (suc zero)))))))) h ne = omega (arith, t .sent P2, lengths p ok P2, ok .fewer P2)
-small l i p t ok (suc (suc (suc (suc (suc (suc (suc (suc (suc zero))))))))) h ne = omega (arith, t .pushed-p1, lengths p ok P1, ok .fewer P1)
-small l i p t ok (suc (suc (suc (suc (suc (suc (suc (suc (suc (suc k)))))))))) h ne = absurd (omega arith)
-
-only-most : (at k : ℕ) → onlyAt at 1 k ≤ 1
+only-most : (at n k : ℕ) → onlyAt at n k ≤ n
 unfolding onlyAt
-only-most at k = by-test (λ (n : ℕ). n ≤ 1) (eqb k at) (λ e. omega arith) (λ e. omega arith)
-
-only-off : (at n k : ℕ) → k ≢ at → onlyAt at n k ≡ 0
-unfolding onlyAt
-only-off at n k ne = rw (ne-eqb k at ne)
+only-most at n k = by-test (λ (x : ℕ). x ≤ n) (eqb k at) (λ e. omega arith) (λ e. omega arith)
 
 fate-most : (c : Priority) (f : Fate) (k : ℕ) → fateAdds c f k ≤ 1
 fate-most P0 f k = omega arith
 fate-most P1 Full k = omega arith
 fate-most P1 Joined k = omega arith
-fate-most P1 PushedOut k = only-most 9 k
+fate-most P1 PushedOut k = only-most 9 1 k
 fate-most P1 Replaced k = omega arith
 fate-most P2 Full k = omega arith
 fate-most P2 Joined k = omega arith
-fate-most P2 PushedOut k = only-most 1 k
-fate-most P2 Replaced k = only-most 0 k
+fate-most P2 PushedOut k = only-most 1 1 k
+fate-most P2 Replaced k = only-most 0 1 k
 
 -- a call adds two to a count at most, bytes apart
 hand-most : (c : Priority) (f : Fate) (k : ℕ) → handAdds c f k ≤ 2
 unfolding handAdds
 hand-most c f k =
-    by-test (λ (n : ℕ). n ≤ 2) (isFull f) (λ e. omega arith) (λ e. omega (arith, only-most (3 + classNumber c) k, fate-most c f k))
+    by-test (λ (n : ℕ). n ≤ 2) (isFull f) (λ e. omega arith) (λ e. omega (arith, only-most (3 + classNumber c) 1 k, fate-most c f k))
 
-send-most : (a : SendAction) (k : ℕ) → k < 10 → sendAdds a k ≤ 2
+-- a record that is sent is no longer than a slot
+abbrev ShortSend : SendAction → Type 0
+ShortSend (Send c slot sequence n forced) = n ≤ 1472
+ShortSend Empty = Unit {0}
+ShortSend (RateLimited wait) = Unit {0}
+
+send-most : (a : SendAction) → ShortSend a → (k : ℕ) → sendAdds a k ≤ 1474
 unfolding sendAdds
-send-most (Send c slot sequence n forced) k h =
-    let more : cond forced (onlyAt 12 1 k) 0 ≤ 1 = by-test (λ (x : ℕ). x ≤ 1) forced (λ e. only-most 12 k) (λ e. omega arith) in
-    omega (arith, only-most (6 + classNumber c) k, only-off 10 n k (λ (e : k ≡ 10). omega arith))
-send-most Empty k h = omega arith
-send-most (RateLimited wait) k h = omega (arith, only-most 11 k)
+send-most (Send c slot sequence n forced) h k =
+    let more : cond forced (onlyAt 12 1 k) 0 ≤ 1 = by-test (λ (x : ℕ). x ≤ 1) forced (λ e. only-most 12 1 k) (λ e. omega arith) in
+    omega (arith, only-most (6 + classNumber c) 1 k, only-most 10 n k)
+send-most Empty h k = omega arith
+send-most (RateLimited wait) h k = omega (arith, only-most 11 1 k)
+
+-- the first of a list that matches its ring is no longer than a slot
+first-short :
+    (m : Limits) (i : ℕ) (s : Parts) (p : Page) → Matches m i s (pageView p) → (c : Priority) → 0 < length (p .queues c .waiting)
+    → getD (p .queues c .waiting) 0 (heldOf (entryOf 0 0 noKey) []) .entry .length ≤ 1472
+unfolding waiting held
+first-short m i s p ok c some =
+    subst (λ (x : Held). x .entry .length ≤ 1472) (sym first) (ok .storage .short c (slotAt r 0) (subst (λ (x : ℕ). slotAt r 0 < x) (ok .limits c) (slot-below r 0 (ok .rings c))))
+  where
+    r : Ring
+    r = ringOf (s .core .queues) c
+
+    first : getD (p .queues c .waiting) 0 (heldOf (entryOf 0 0 noKey) []) ≡ held m i c (s .words) (s .pool) (slotAt r 0)
+    first =
+        ap (λ (xs : List Held). getD xs 0 (heldOf (entryOf 0 0 noKey) []))
+        (sym (ok .lists c)
+        ∙ contents-first (held m i c (s .words) (s .pool)) r (subst (λ (x : ℕ). 0 < x) (sym (ap length (ok .lists c)) ∙ length-contents (held m i c (s .words) (s .pool)) r) some))
+
+short-send : (m : Limits) (i : ℕ) (s : Parts) (p : Page) → Matches m i s (pageView p) → (a : SendAction) → Shows m i (s .pool) (pageView p) a → ShortSend a
+short-send m i s p ok (Send c slot sequence n forced) w =
+    subst (λ (x : ℕ). x ≤ 1472) (w .length-is) (first-short m i s p ok c (w .waits))
+short-send m i s p ok Empty w = tt
+short-send m i s p ok (RateLimited wait) w = tt
 
 -- counts that stay
 tallied-same : (l l′ : List ℕ) (i : ℕ) (p : Page) → ((k : ℕ) → k < 13 → countIn l′ i k ≡ countIn l i k) → Tallied l i p → Tallied l′ i p
@@ -221,6 +225,7 @@ module _ (m : Limits) (g : List ℕ) (s : Station) (b : Book) (ok : Sound m g s 
         unregistered = λ i above. ok .unregistered i (omega arith);
         storage = ok .storage;
         noughts = λ i above. ok .noughts i (omega arith);
+        few = λ i k lo lt ne. omega (arith, calls-next time h, ok .few i k lo lt ne);
       }
 
   -- the controller alone
@@ -336,11 +341,20 @@ module _ (m : Limits) (g : List ℕ) (s : Station) (b : Book) (ok : Sound m g s 
     own-page : Matches m i (partsOf (x .core) words′ g′) (pageView page)
     own-page = hands-in m i parts (b i) c key bytes (ok .pages i lo) n (next-small m g s b ok i) (omega (arith, next-small m g s b ok i, ok .balanced i .fewerP2))
 
+    adds-exactly : (k : ℕ) → k < 13 → k ≢ 2 → countIn words′ i k ≡ countIn (s .words) i k + handAdds c (x .kept .fate) k
+    adds-exactly k lt ne =
+        count-handed (s .words) i c (x .kept) (length bytes) key k long-at kept-most lt ne
+        (omega (arith, hand-most c (x .kept .fate) k, ok .few i k below4 lt ne, ok .counted))
+
     own-counts : (k : ℕ) → k < 10 → k ≢ 2 → countIn words′ i k ≡ countIn (s .words) i k + handAdds c (fateOf m c key (b i .queues c .waiting)) k
-    own-counts k lt ne =
-        count-handed (s .words) i c (x .kept) (length bytes) key k long-at kept-most (omega arith) ne
-        (omega (arith, hand-most c (x .kept .fate) k, small (s .words) i (b i) (ok .tallies i lo) (ok .balanced i) k lt ne, ok .used i, ok .counted))
-        ∙ ap (λ (f : Fate). countIn (s .words) i k + handAdds c f k) fate
+    own-counts k lt ne = adds-exactly k (omega arith) ne ∙ ap (λ (f : Fate). countIn (s .words) i k + handAdds c f k) fate
+
+    few-handed : (j k : ℕ) → j < 4 → k < 13 → k ≢ 2 → Dec (j ≡ i) → countIn words′ j k ≤ moved (s .ledger) time .calls * 1474
+    few-handed j k lo lt ne (yes e) =
+        subst (λ (y : ℕ). countIn words′ y k ≤ moved (s .ledger) time .calls * 1474) (sym e)
+        (omega (arith, adds-exactly k lt ne, hand-most c (x .kept .fate) k, ok .few i k below4 lt ne, calls-next time h))
+    few-handed j k lo lt ne (no off) =
+        omega (arith, count-handed-other (s .words) i c (x .kept) (length bytes) key j k off kept-most lt, ok .few j k lo lt ne, calls-next time h)
 
     own-tally : Tallied words′ i page
     own-tally =
@@ -378,6 +392,7 @@ module _ (m : Limits) (g : List ℕ) (s : Station) (b : Book) (ok : Sound m g s 
           noughts = λ j above lt k kt.
               count-handed-other (s .words) i c (x .kept) (length bytes) key j k (λ (e : j ≡ i). omega (arith, count-with (s .roster) i (x .core))) kept-most kt
               ∙ ok .noughts j (rw (← count-with (s .roster) i (x .core)) above) lt k kt;
+          few = λ j k lt kt ne. few-handed j k lt kt ne (ℕ-discrete j i);
         }
       where
         storage-at : (j : ℕ) → j < 4 → Dec (j ≡ i) → Stored m j words′ g′
@@ -397,10 +412,22 @@ module _ (m : Limits) (g : List ℕ) (s : Station) (b : Book) (ok : Sound m g s 
     tried : TriedBy m i (partsOf (pacerIn s i) (s .words) g) (b i) a
     tried = tries-out m i (partsOf (pacerIn s i) (s .words) g) (b i) (s .config .pacer .enabled) time (ok .pages i lo)
 
-    own-sent : (k : ℕ) → k < 10 → k ≢ 2 → countIn noted-words i k ≡ countIn (s .words) i k + sendAdds (a .action) k
-    own-sent k lt ne =
-        count-sent (s .words) i (a .action) k (ok .storage i (omega (arith, ok .seated .fits)) .long) (omega arith) ne
-        (omega (arith, send-most (a .action) k lt, small (s .words) i (b i) (ok .tallies i lo) (ok .balanced i) k lt ne, ok .used i, ok .counted))
+    below-4 : i < 4
+    below-4 = omega (arith, ok .seated .fits)
+
+    most : (k : ℕ) → sendAdds (a .action) k ≤ 1474
+    most k = send-most (a .action) (short-send m i (partsOf (pacerIn s i) (s .words) g) (b i) (ok .pages i lo) (a .action) (tried .0)) k
+
+    sends-exactly : (k : ℕ) → k < 13 → k ≢ 2 → countIn noted-words i k ≡ countIn (s .words) i k + sendAdds (a .action) k
+    sends-exactly k lt ne =
+        count-sent (s .words) i (a .action) k (ok .storage i below-4 .long) lt ne (omega (arith, most k, ok .few i k below-4 lt ne, ok .counted))
+
+    few-sent : (j k : ℕ) → j < 4 → k < 13 → k ≢ 2 → Dec (j ≡ i) → countIn noted-words j k ≤ moved (s .ledger) time .calls * 1474
+    few-sent j k lt kt ne (yes e) =
+        subst (λ (y : ℕ). countIn noted-words y k ≤ moved (s .ledger) time .calls * 1474) (sym e)
+        (omega (arith, sends-exactly k kt ne, most k, ok .few i k below-4 kt ne, calls-next time h))
+    few-sent j k lt kt ne (no off) =
+        omega (arith, count-sent-other (s .words) i (a .action) j k off kt, ok .few j k lt kt ne, calls-next time h)
 
     waits-there : (x : SendAction) → Shows m i g (pageView (b i)) x → Waits (b i) x
     waits-there (Send c slot sequence n forced) w = w .waits
@@ -432,13 +459,14 @@ module _ (m : Limits) (g : List ℕ) (s : Station) (b : Book) (ok : Sound m g s 
               (matches-noted m i j (pacerIn s j) (s .words) noted-words g (pageView (b j)) (noted-send i (s .words) (a .action)) (ok .pages j (rw (← count-with (s .roster) i (a .core)) below))));
           tallies = λ j below.
               by-page (λ (k : ℕ) (p : Page). Tallied noted-words k p) b i page j
-              (sent-tallied (b i) (a .action) (s .words) noted-words i (ok .tallies i lo) own-sent (waits-there (a .action) (tried .0)))
+              (sent-tallied (b i) (a .action) (s .words) noted-words i (ok .tallies i lo) (λ k lt ne. sends-exactly k (omega arith) ne) (waits-there (a .action) (tried .0)))
               (λ ne. tallied-same (s .words) noted-words j (b j) (λ k lt. count-sent-other (s .words) i (a .action) j k ne lt) (ok .tallies j (rw (← count-with (s .roster) i (a .core)) below)));
           unregistered = λ j above. page-other b i page j (λ (e : j ≡ i). omega (arith, count-with (s .roster) i (a .core))) ∙ ok .unregistered j (rw (← count-with (s .roster) i (a .core)) above);
           storage = λ j below. stored-noted m i j (s .words) noted-words g (noted-send i (s .words) (a .action)) (ok .storage j below);
           noughts = λ j above lt k kt.
               count-sent-other (s .words) i (a .action) j k (λ (e : j ≡ i). omega (arith, count-with (s .roster) i (a .core))) kt
               ∙ ok .noughts j (rw (← count-with (s .roster) i (a .core)) above) lt k kt;
+          few = λ j k lt kt ne. few-sent j k lt kt ne (ℕ-discrete j i);
         }
       where
         page : Page

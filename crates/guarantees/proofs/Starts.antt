@@ -150,6 +150,7 @@ sound-new c time pool ok wide =
       unregistered = λ i h. refl;
       storage = λ i lo. stored-new (limitsOf c) i 7220 pool (ok .limited) (omega arith) (slots-wide (limitsOf c) i pool lo wide);
       noughts = λ i h lo k kt. getD-zeros 7220 (countAt i k);
+      few = λ i k lo kt ne. omega (arith, getD-zeros 7220 (countAt i k));
     }
 
 pub ticking-new : (c : CongestionConfig) (time : ℕ) → Domain c → Ticking (newStation (stationConfigOf c) time)

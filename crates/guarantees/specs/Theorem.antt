@@ -17,7 +17,7 @@ use Rattle.pacing.specs.Pool.{isShort, limitsOf, slotStart}
 use Rattle.pacing.specs.Records.{Held, waiting}
 use Rattle.pacing.specs.TokenBucket.{waitOf}
 use Rattle.pacing.specs.Window.{contents}
-use Rattle.pacing.specs.WriterPacer.{ringOf, metricsIn, rateOf}
+use Rattle.pacing.specs.WriterPacer.{ringOf, countIn, metricsIn, rateOf}
 use Rattle.pacing.specs.declared.coalescing.InstanceKey.{InstanceKey}
 use Rattle.pacing.specs.declared.entries.Entry.{Entry}
 use Rattle.pacing.specs.declared.pool.Limits.{Limits}
@@ -133,6 +133,8 @@ pub record Fated (k : Kept) : Type 0 where
   pub one-fate : (i : ℕ) (c : Priority) → OneFate (k .book i .queues c)
   pub matched : (i : ℕ) → i < k .state .station .roster .count → (c : Priority) → Matched (k .state .station) i c (k .book i .queues c)
   pub unregistered : (i : ℕ) → k .state .station .roster .count ≤ i → k .book i ≡ emptyPage
+  -- no count of a pacer has reached its largest value, so that each is exact; n as over `countAt`, where 2, P2's waiting bytes, is no count
+  pub exact : (i n : ℕ) → i < k .state .station .roster .count → n < 13 → n ≢ 2 → countIn (k .state .station .words) i n < 18446744073709551615
 
 -- "each `sent` shows that first's sequence, length and bytes"
 pub record FirstIs (xs : List Held) (sequence n : ℕ) : Type 0 where
