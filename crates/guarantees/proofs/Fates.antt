@@ -8,7 +8,7 @@ use native.Mathlib.Decide.{ℕ-discrete}
 use native.Mathlib.Omega.{arith}
 use borrow.Author.Tests.{eq-eqb, ne-eqb, ltb-true}
 use lib.Dec.{ltb, eqb}
-use lib.ListN.{length, set, take, drop, length-append}
+use lib.ListN.{length, set, take, drop}
 use Rattle.config.specs.Refusal.{accepted, queueFull}
 use Rattle.config.specs.declared.config.Priority.{Priority}
 use Rattle.config.specs.declared.config.Priority.the-variants.{P0, P1, P2}
@@ -173,8 +173,7 @@ balanced-taken q next ok =
 
 pub record BalancedPage (b : Page) : Type 0 where
   pub balanced : (c : Priority) → Balanced (b .queues c) (sequenceOf b c)
-  -- as many numbers as records, at least
-  pub fewer : (c : Priority) → length (b .queues c .accepted) ≤ b .next
+  -- P2 has used up no more numbers than the pacer
   pub fewerP2 : b .nextP2 ≤ b .next
 
 -- with one class's queue exchanged, a claim about every class is owed for that class alone
@@ -198,7 +197,6 @@ unfolding weigh
 balanced-empty =
     record {
       balanced = λ c. record { whole = λ w. refl; fresh = λ n h. refl; once = λ n. omega arith };
-      fewer = λ c. omega arith;
       fewerP2 = omega arith;
     }
 
@@ -227,22 +225,20 @@ balanced-used : (b : Page) → BalancedPage b → BalancedPage (pageUsed b)
 balanced-used b ok =
     record {
       balanced = λ c. balanced-later (b .queues c) (sequenceOf b c) _ (sequence-later b (pageUsed b) (omega arith) (omega arith) c) (ok .balanced c);
-      fewer = λ c. omega (arith, ok .fewer c);
       fewerP2 = omega (arith, ok .fewerP2);
     }
 
 -- one class's queue exchanged, and counters that did not move back
 balanced-with-queue :
     (b : Page) (c : Priority) (q : Queue) (next nextP2 : ℕ) → b .next ≤ next → b .nextP2 ≤ nextP2 → nextP2 ≤ next
-    → Balanced q (sequenceOf (pageOf (withQueue (b .queues) c q) next nextP2) c) → length (q .accepted) ≤ next → BalancedPage b
+    → Balanced q (sequenceOf (pageOf (withQueue (b .queues) c q) next nextP2) c) → BalancedPage b
     → BalancedPage (pageOf (withQueue (b .queues) c q) next nextP2)
-balanced-with-queue b c q next nextP2 h k fewerP2 own few ok =
+balanced-with-queue b c q next nextP2 h k fewerP2 own ok =
     let after : Page = pageOf (withQueue (b .queues) c q) next nextP2 in
     record {
       balanced =
           by-queue (λ (d : Priority) (r : Queue). Balanced r (sequenceOf after d)) (b .queues) c q own
           (λ d. balanced-later (b .queues d) (sequenceOf b d) (sequenceOf after d) (sequence-later b after h k d) (ok .balanced d));
-      fewer = by-queue (λ (d : Priority) (r : Queue). length (r .accepted) ≤ next) (b .queues) c q few (λ d. omega (arith, ok .fewer d));
       fewerP2 = fewerP2;
     }
 
@@ -264,7 +260,6 @@ module _ (m : Limits) (b : Page) (c : Priority) (key : InstanceKey) (bytes : Lis
       (omega (arith, nextP2-close b c, ok .fewerP2))
       (balanced-later (handedTo m c key (b .queues c) x) (sequenceOf b c + 1) _ (sequence-handed m b c key bytes)
       (balanced-more m c key (b .queues c) x (sequenceOf b c) (sequence-shaped b c key bytes) (ok .balanced c)))
-      (omega (arith, ap length (accepted-handed m c key (b .queues c) x) ∙ length-append (b .queues c .accepted) (x ∷ []), ok .fewer c))
       ok
     where
       x : Held
@@ -285,7 +280,7 @@ balanced-sent b (one c) ok =
     balanced-with-queue b c (takenFrom (b .queues c)) (b .next) (b .nextP2) (omega arith) (omega arith) (ok .fewerP2)
     (balanced-later (takenFrom (b .queues c)) (sequenceOf b c) _ (sequence-later b (pageSent b c) (omega arith) (omega arith) c)
     (balanced-taken (b .queues c) (sequenceOf b c) (ok .balanced c)))
-    (unfold takenFrom in ok .fewer c) ok
+    ok
 
 -- ---- the book
 

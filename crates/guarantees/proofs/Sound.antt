@@ -1,6 +1,6 @@
 -- What holds of a station and its book after every list of calls, and that every call keeps it: the queues hold what the pages list, the
 -- counts are the lists' lengths, and no counter has come near its largest value. Assumes nothing.
-use Prim.Native.Nat.{ℕ, zero, suc, _+_, _*_, _^_, _≤_, _<_}
+use Prim.Native.Nat.{ℕ, suc, _+_, _*_, _^_, _≤_, _<_}
 use mathlib.Core.Bool.{false, cond}
 use mathlib.Core.List.{List, []}
 use mathlib.Core.Logic.{_≢_}
@@ -46,7 +46,7 @@ use Rattle.station.specs.declared.station.Writer.{Writer}
 use Rattle.guarantees.specs.Book.{Page, Book, emptyPage, withPage, Sent, none, one, sentAs, sentIn, handedBy, pageAfterSend, noted}
 use Rattle.guarantees.specs.Calls.{Lent, Call, register, control, handIn, send, Outcome, outcome, written}
 use Rattle.guarantees.proofs.Changes.{Timed, Cases, by-case}
-use Rattle.guarantees.proofs.Fates.{BalancedPage, balanced-noted, weigh-one}
+use Rattle.guarantees.proofs.Fates.{BalancedPage, balanced-noted}
 use Rattle.guarantees.proofs.HandIns.{pageView, decided, hands-in, TriedBy, tries-out, length-pool, stored-handed, matches-handed, stored-noted, matches-noted}
 use Rattle.guarantees.proofs.Rosters.{Seated, pacer-same, pacer-other, count-with, seated-with, joined-new, joined-other, seated-joined, budgeted-at, seated-budgeted}
 use Rattle.guarantees.proofs.Tallies.{Tallied, fateOf, handed-next, handed-tallied, Waits, sent-tallied}

@@ -212,9 +212,3 @@ look-handed-other l i c kept n key j d t ne fits b =
     let same = look-noted i l _ j d t (noted-hand-in i l c kept n) b in
     by-test (λ (m : List ℕ). look m (queueAt j d) d t ≡ look l (queueAt j d) d t) (isFull (kept .fate)) (λ e. same)
     (λ e. look-other _ i c (kept .slot) _ j d t (fits e) b (queues-apart i c j d ne) ∙ same)
-
--- a send attempt touches no entry, its own pacer's neither
-pub look-sent-other :
-    (l : List ℕ) (i : ℕ) (a : SendAction) (j : ℕ) (d : Priority) (t : ℕ) → t < mostOf d
-    → look (sendNoted l i a) (queueAt j d) d t ≡ look l (queueAt j d) d t
-look-sent-other l i a j d t = look-noted i l _ j d t (noted-send i l a)
