@@ -13,6 +13,7 @@ use Rattle.numeric.specs.Float.{scaled, maxOf}
 use Rattle.numeric.specs.Search.{first}
 use Rattle.control.specs.declared.budget_allocator.AllocationConfig.{AllocationConfig}
 use Rattle.control.specs.declared.budget_allocator.AllocationStats.{AllocationStats}
+use Rattle.control.specs.declared.budget_allocator.Budget.{Budget}
 use Rattle.control.specs.declared.budget_allocator.BudgetAllocator.{BudgetAllocator}
 use Rattle.control.specs.declared.budget_allocator.ClassBudgets.{ClassBudgets}
 use Rattle.control.specs.declared.budget_allocator.ClassWeights.{ClassWeights}
@@ -103,6 +104,14 @@ unfoldable pub without : WriterTable → ℕ → WriterTable
 without t id =
     cond (ltb (placeOf t id) (takenOf (t .count)))
     (tableOf (withoutRow t (placeOf t id) .rows) (takenOf (t .count) - 1)) t
+
+-- the budget in a writer's row
+abbrev pub knownBudget : ℕ → Budget
+knownBudget bps = record { known = true; bps = bps }
+
+unfoldable pub budgetOf : WriterTable → ℕ → Budget
+budgetOf t id =
+    cond (isKnown t id) (knownBudget (rowAt (t .rows) (placeOf t id) .«budget_bps»)) (record { known = false; bps = 0 })
 
 -- not there, and 64 are
 unfoldable pub fullFor : WriterTable → ℕ → Bool

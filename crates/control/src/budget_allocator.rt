@@ -1,7 +1,7 @@
 // Shares of the rate: a table of up to 64 writers by class and then by id, and what each gets of a rate.
 ghost use mathlib.Core.Path.{_≡_};
 ghost use Rattle.config.specs.Refusal.{answerOf};
-ghost use Rattle.control.specs.BudgetAllocator.{allocationConfigOf, noAllocationConfig, blankWriter, newWriter, comesBefore, takenOf, placeOf, placeFor, withRow, withoutRow, newTable, writersOf, entered, isKnown, without, fullFor, writerAt, noWeights, weighed, weightsFrom, weightIn, budgetIn, shareOf, reserveOf, splitOf, urgentPart, leftFrom, sharesOf, budgetFor, withBudget, allottedTable, distributedFrom, newAllocator, one, registered, unregistered, reallocated};
+ghost use Rattle.control.specs.BudgetAllocator.{allocationConfigOf, noAllocationConfig, blankWriter, newWriter, comesBefore, takenOf, placeOf, placeFor, withRow, withoutRow, newTable, writersOf, entered, isKnown, budgetOf, without, fullFor, writerAt, noWeights, weighed, weightsFrom, weightIn, budgetIn, shareOf, reserveOf, splitOf, urgentPart, leftFrom, sharesOf, budgetFor, withBudget, allottedTable, distributedFrom, newAllocator, one, registered, unregistered, reallocated};
 ghost use Rattle.control.specs.BudgetAllocatorAlone.{weightOut, registerChecks, weightChecks, allotChecks, zeroAlone, madeAlone, resumedAlone, leftBy, registeredAlone, weightedAlone, unregisteredAlone, reallocatedAlone};
 use config::config::CongestionConfig;
 use config::config::Priority;
@@ -251,6 +251,25 @@ impl WriterTable {
         self.rows
     }
 
+    // The budget of a writer, where it is there.
+    pub fn budget_of(self, id: u64) -> Budget
+        ensures { λ r. ⌜ r ≡ budgetOf self id ⌝ }
+    {
+        let place = self.place_of(id);
+        if place < taken(self.count) {
+            let row = self.rows[place];
+            Budget {
+                known: true,
+                bps: row.budget_bps,
+            }
+        } else {
+            Budget {
+                known: false,
+                bps: 0,
+            }
+        }
+    }
+
     // The writer in a row, blank where none stands.
     pub fn writer_at(self, place: usize) -> WriterInfo
         ensures { λ r. ⌜ r ≡ writerAt self place ⌝ }
@@ -261,6 +280,12 @@ impl WriterTable {
             WriterInfo::blank()
         }
     }
+}
+
+// What a writer may send in bytes per second, and whether there is such a writer.
+pub struct Budget {
+    pub known: bool,
+    pub bps: u32,
 }
 
 // The weights of each class's writers together.

@@ -1,8 +1,8 @@
 // The congestion controller: signals reach the scorer, whose ticks steer the rate, which is shared out among the writers.
 ghost use mathlib.Core.Path.{_≡_};
 ghost use Rattle.config.specs.Refusal.{answerOf};
-ghost use Rattle.control.specs.Controller.{ecnUsed, controllerConfigOf, newCore, onEagain, onNacks, marked, onEcnTos, onEcnCe, onInflated, onWindow, steered, coreTicked, coreSet, newController, registeredIn, sampled, controllerTicked, controllerSet, fullForPeer};
-ghost use Rattle.control.specs.ControllerAlone.{zeroAlone, madeAlone, resumedAlone, registerChecks, peerChecks, leftBy, signalledAlone, registeredAlone, eagainAlone, nacksAlone, tosAlone, ceAlone, sampledAlone, tickedAlone, ratedAlone};
+ghost use Rattle.control.specs.Controller.{ecnUsed, controllerConfigOf, newCore, onEagain, onNacks, marked, onEcnTos, onEcnCe, onInflated, onWindow, steered, coreTicked, coreSet, controllerOf, newController, registeredIn, sampled, controllerTicked, controllerSet, fullForPeer};
+ghost use Rattle.control.specs.ControllerAlone.{noConfig, zeroAlone, madeAlone, resumedAlone, registerChecks, peerChecks, leftBy, signalledAlone, registeredAlone, eagainAlone, nacksAlone, tosAlone, ceAlone, sampledAlone, tickedAlone, ratedAlone};
 use crate::budget_allocator::AllocationConfig;
 use crate::budget_allocator::BudgetAllocator;
 use crate::metrics::CongestionMetrics;
@@ -58,6 +58,19 @@ impl ControllerConfig {
             scorer: ScorerConfig::from_config(config),
             rate: RateParams::from_config(config),
             allocation: AllocationConfig::from_config(config),
+        }
+    }
+
+    // Settings that were turned down: disabled, and every number 0.
+    pub fn zero() -> ControllerConfig
+        ensures { λ r. ⌜ r ≡ noConfig ⌝ }
+    {
+        ControllerConfig {
+            enabled: false,
+            ecn: false,
+            scorer: ScorerConfig::zero(),
+            rate: RateParams::zero(),
+            allocation: AllocationConfig::zero(),
         }
     }
 }
@@ -320,6 +333,21 @@ pub struct ControllerTicked {
 
 // The steps that touch a table: total, with no numbers.
 impl CongestionController {
+    // A controller from its parts.
+    pub fn of(
+        core: ControllerCore,
+        tracker: PeerRttTracker,
+        allocator: BudgetAllocator,
+    ) -> CongestionController
+        ensures { λ r. ⌜ r ≡ controllerOf core tracker allocator ⌝ }
+    {
+        CongestionController {
+            core,
+            tracker,
+            allocator,
+        }
+    }
+
     pub fn new(config: ControllerConfig, time: u64) -> CongestionController
         ensures { λ r. ⌜ r ≡ newController config time ⌝ }
     {
@@ -437,13 +465,7 @@ impl CongestionControllerAlone {
     fn zero() -> CongestionControllerAlone
         ensures { λ r. ⌜ r ≡ zeroAlone ⌝ }
     {
-        let config = ControllerConfig {
-            enabled: false,
-            ecn: false,
-            scorer: ScorerConfig::zero(),
-            rate: RateParams::zero(),
-            allocation: AllocationConfig::zero(),
-        };
+        let config = ControllerConfig::zero();
         CongestionControllerAlone {
             ledger: Ledger::new(0),
             config,

@@ -30,9 +30,9 @@ use Rattle.control.specs.declared.budget_allocator.WriterInfo.{WriterInfo}
 use Rattle.control.specs.declared.budget_allocator.WriterTable.{WriterTable}
 use Rattle.control.specs.declared.controller.CongestionController.{CongestionController}
 use Rattle.station.specs.Station.{writerOf, writerAt, pacerIn, withPacer, joined, budgeted, budgetedAll, allotted, registerLeaves, firstPacer}
-use Rattle.station.specs.declared.station.Roster.{Roster}
+use Rattle.station.specs.declared.roster.Roster.{Roster}
 use Rattle.station.specs.declared.station.Station.{Station}
-use Rattle.station.specs.declared.station.Writer.{Writer}
+use Rattle.station.specs.declared.roster.Writer.{Writer}
 use Rattle.guarantees.specs.Calls.{Call, Reply, nothing, signal, unchanged, updates, action, Outcome, rowsOf, outcome, after}
 use Rattle.guarantees.specs.Theorem.{Kept, keep, Each, isUpdates, SetTo, ReplyReaches, StartsLeast, Reaches}
 use Rattle.guarantees.proofs.Changes.{begins-down, Cases, by-case}

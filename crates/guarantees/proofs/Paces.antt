@@ -22,9 +22,9 @@ use Rattle.control.specs.BudgetAllocator.{isKnown}
 use Rattle.control.specs.declared.budget_allocator.WriterTable.{WriterTable}
 use Rattle.control.specs.declared.controller.CongestionController.{CongestionController}
 use Rattle.station.specs.Station.{stationOf, writerOf, writerAt, pacerIn, withPacer, joined, budgeted, budgetedAll, steered, allotted, registerLeaves, firstPacer, paced, enqueuedIn, attemptIn}
-use Rattle.station.specs.declared.station.Roster.{Roster}
+use Rattle.station.specs.declared.roster.Roster.{Roster}
 use Rattle.station.specs.declared.station.Station.{Station}
-use Rattle.station.specs.declared.station.Writer.{Writer}
+use Rattle.station.specs.declared.roster.Writer.{Writer}
 use Rattle.guarantees.specs.Calls.{Lent, Call, register, control, handIn, send, nothing, action, Outcome, outcome, State, answered, after, run}
 use Rattle.guarantees.specs.Theorem.{bucketIn, setsBy, sets, Unset, paidAs, paidBy, paid, refillsBy, refills, Allowance}
 use Rattle.guarantees.proofs.Changes.{Timed, Cases, by-case, by-send}

@@ -14,8 +14,8 @@ use Rattle.control.proofs.Writers.{length-mapped}
 use Rattle.control.specs.BudgetAllocator.{isKnown}
 use Rattle.control.specs.declared.budget_allocator.WriterTable.{WriterTable}
 use Rattle.station.specs.Station.{writerOf, noWriter, writerAt, takenOf, joined, withPacer, budgeted, budgetedAll}
-use Rattle.station.specs.declared.station.Roster.{Roster}
-use Rattle.station.specs.declared.station.Writer.{Writer}
+use Rattle.station.specs.declared.roster.Roster.{Roster}
+use Rattle.station.specs.declared.roster.Writer.{Writer}
 
 -- four places, and no more writers than places
 pub record Seated (r : Roster) : Type 0 where

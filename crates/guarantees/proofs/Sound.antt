@@ -40,9 +40,9 @@ use Rattle.control.specs.BudgetAllocator.{isKnown}
 use Rattle.control.specs.declared.budget_allocator.WriterTable.{WriterTable}
 use Rattle.control.specs.declared.controller.CongestionController.{CongestionController}
 use Rattle.station.specs.Station.{stationOf, writerOf, writerAt, pacerIn, limitsIn, slotsNeeded, joined, budgeted, budgetedAll, steered, allotted, registerLeaves, firstPacer, paced, enqueuedIn, attemptIn}
-use Rattle.station.specs.declared.station.Roster.{Roster}
+use Rattle.station.specs.declared.roster.Roster.{Roster}
 use Rattle.station.specs.declared.station.Station.{Station}
-use Rattle.station.specs.declared.station.Writer.{Writer}
+use Rattle.station.specs.declared.roster.Writer.{Writer}
 use Rattle.guarantees.specs.Book.{Page, Book, emptyPage, withPage, Sent, none, one, sentAs, sentIn, handedBy, pageAfterSend, noted}
 use Rattle.guarantees.specs.Calls.{Lent, Call, register, control, handIn, send, Outcome, outcome, written}
 use Rattle.guarantees.proofs.Changes.{Timed, Cases, by-case}

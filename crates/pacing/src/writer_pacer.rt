@@ -129,6 +129,34 @@ impl PacerConfig {
         }
     }
 
+    // Settings that were turned down: off, and every number 0.
+    pub fn zero() -> PacerConfig
+        ensures { λ r. ⌜ r ≡ zeroPacer .config ⌝ }
+    {
+        PacerConfig {
+            enabled: false,
+            min_rate_bps: 0,
+            max_rate_bps: 0,
+            limits: Limits {
+                p0: 0,
+                p1: 0,
+                p2: 0,
+            },
+        }
+    }
+
+    pub fn enabled(self) -> bool
+        ensures { λ r. ⌜ r ≡ self .enabled ⌝ }
+    {
+        self.enabled
+    }
+
+    pub fn min_rate_bps(self) -> u32
+        ensures { λ r. ⌜ r ≡ self .«min_rate_bps» ⌝ }
+    {
+        self.min_rate_bps
+    }
+
     pub fn limits(self) -> Limits
         ensures { λ r. ⌜ r ≡ self .limits ⌝ }
     {
@@ -212,6 +240,21 @@ fn burst(rate_bps: u32) -> u64
 
 // The steps: total, with no numbers. `i` is the pacer's number, which says where its words lie.
 impl PacerCore {
+    // A place that no pacer has: every number 0.
+    pub fn zero() -> PacerCore
+        ensures { λ r. ⌜ r ≡ zeroPacer .core ⌝ }
+    {
+        PacerCore {
+            queues: Queues {
+                p0: Ring::new(0),
+                p1: Ring::new(0),
+                p2: CoalescingQueue::new(0),
+            },
+            next_sequence: 0,
+            tokens: TokenBucket::new(0, 0, 0),
+        }
+    }
+
     pub fn with_rate(time: u64, limits: Limits, rate_bps: u32) -> PacerCore
         ensures { λ r. ⌜ r ≡ made time limits «rate_bps» ⌝ }
     {
@@ -838,25 +881,8 @@ fn zero() -> WriterPacerAlone
 {
     WriterPacerAlone {
         ledger: Ledger::new(0),
-        config: PacerConfig {
-            enabled: false,
-            min_rate_bps: 0,
-            max_rate_bps: 0,
-            limits: Limits {
-                p0: 0,
-                p1: 0,
-                p2: 0,
-            },
-        },
-        core: PacerCore {
-            queues: Queues {
-                p0: Ring::new(0),
-                p1: Ring::new(0),
-                p2: CoalescingQueue::new(0),
-            },
-            next_sequence: 0,
-            tokens: TokenBucket::new(0, 0, 0),
-        },
+        config: PacerConfig::zero(),
+        core: PacerCore::zero(),
         words: [0; PACER_WORDS],
     }
 }

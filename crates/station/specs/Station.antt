@@ -8,7 +8,7 @@ use lib.Dec.{ltb, leb, eqb}
 use lib.Ieee.{Float}
 use lib.ListN.{getD, set, replicate, take, drop}
 use Rattle.config.specs.Config.{makingChecks}
-use Rattle.config.specs.Ledger.{opened, moved, timedChecks, rateChecks}
+use Rattle.config.specs.Ledger.{opened, resumed, moved, timedChecks, rateChecks}
 use Rattle.config.specs.Refusal.{Check, when, answerOf, writerUnknown, writerKnown, tableFull}
 use Rattle.config.specs.declared.config.CongestionConfig.{CongestionConfig}
 use Rattle.config.specs.declared.config.Priority.{Priority}
@@ -35,12 +35,12 @@ use Rattle.control.specs.declared.budget_allocator.WriterTable.{WriterTable}
 use Rattle.control.specs.declared.controller.CongestionController.{CongestionController}
 use Rattle.control.specs.declared.controller.ControllerTicked.{ControllerTicked}
 use Rattle.control.specs.declared.controller.Marked.{Marked}
-use Rattle.station.specs.declared.station.Roster.{Roster}
+use Rattle.station.specs.declared.roster.Roster.{Roster}
 use Rattle.station.specs.declared.station.Station.{Station}
 use Rattle.station.specs.declared.station.StationAnswer.{StationAnswer}
 use Rattle.station.specs.declared.station.StationConfig.{StationConfig}
 use Rattle.station.specs.declared.station.StationSent.{StationSent}
-use Rattle.station.specs.declared.station.Writer.{Writer}
+use Rattle.station.specs.declared.roster.Writer.{Writer}
 
 -- ---- what it holds
 
@@ -70,9 +70,13 @@ pacerIn s i = writerAt (s .roster) i .pacer
 abbrev pub takenOf : Roster → ℕ
 takenOf r = min (r .count) 4
 
+-- the first place with the id, or the number of places taken
+abbrev pub placeIn : Roster → ℕ → ℕ
+placeIn r id = first (λ (k : ℕ). eqb (writerAt r k .id) id) (takenOf r)
+
 -- "16 id already in the station"
 unfoldable pub isHere : Roster → ℕ → Bool
-isHere r id = ltb (first (λ (k : ℕ). eqb (writerAt r k .id) id) (takenOf r)) (takenOf r)
+isHere r id = ltb (placeIn r id) (takenOf r)
 
 -- "up to 4 writers with a pacer each, numbered from 0 as registered": the next place is the newcomer's
 unfoldable pub joined : Roster → Writer → Roster
@@ -111,6 +115,10 @@ unfoldable pub madeStation : CongestionConfig → ℕ → StationAnswer
 madeStation c time =
     cond (eqb (answerOf (makingChecks c time)) 0) (answerWith 0 false (newStation (stationConfigOf c) time))
     (turnedDown zeroStation (answerOf (makingChecks c time)))
+
+-- a call count that was kept elsewhere
+abbrev pub resumedStation : Station → ℕ → Station
+resumedStation s calls = stationOf (resumed (s .ledger) calls) (s .config) (s .controller) (s .roster) (s .words)
 
 -- ---- register: 7, 17, 11, 16 and 14
 

@@ -1,2 +1,3 @@
-// The link station: one controller, and up to four writers with a pacer each.
+pub mod parts;
+pub mod roster;
 pub mod station;

@@ -5,22 +5,14 @@ use Rattle.pacing.proofs.writer_pacer.zero.Tie as tie
 new-requires : tie.Need-new-requires
 new-requires c κs = search needs
 
-new-requires-2 : tie.Need-new-requires-2
-new-requires-2 c κs = search needs
+zero-requires : tie.Need-zero-requires
+zero-requires c κs = search needs
 
-new-requires-3 : tie.Need-new-requires-3
-new-requires-3 c κs = search needs
-
-new-requires-4 : tie.Need-new-requires-4
-new-requires-4 c κs = search needs
-
-new-requires-5 : tie.Need-new-requires-5
-new-requires-5 c κs = search needs
+zero-requires-2 : tie.Need-zero-requires-2
+zero-requires-2 c κs = search needs
 
 returns : tie.Need-returns
-returns c = rw (c .before .before .before .before .new .ensures, c .before .before .before .new2 .ensures, c .before .before .new3 .ensures, c .before .new4 .ensures, c .new5 .ensures)
+returns c = rw (c .before .before .new .ensures, c .before .zero .ensures, c .zero2 .ensures)
 
 pub zero-spec : {M : Type 1} → statement M
-zero-spec =
-    tie.close
-    (tie.spec new-requires new-requires-2 new-requires-3 new-requires-4 new-requires-5 returns)
+zero-spec = tie.close (tie.spec new-requires zero-requires zero-requires-2 returns)

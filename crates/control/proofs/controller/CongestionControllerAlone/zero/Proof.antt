@@ -5,12 +5,6 @@ use Rattle.control.proofs.controller.CongestionControllerAlone.zero.Tie
 zero-requires : tie.Need-zero-requires
 zero-requires c κs = search needs
 
-zero-requires-2 : tie.Need-zero-requires-2
-zero-requires-2 c κs = search needs
-
-zero-requires-3 : tie.Need-zero-requires-3
-zero-requires-3 c κs = search needs
-
 new-requires : tie.Need-new-requires
 new-requires c κs = search needs
 
@@ -18,9 +12,7 @@ new-requires-2 : tie.Need-new-requires-2
 new-requires-2 c κs = search needs
 
 returns : tie.Need-returns
-returns c = rw (← c .before .before .before .before .zero .ensures, ← c .before .before .before .zero2 .ensures, ← c .before .before .zero3 .ensures, ← c .before .new .ensures, ← c .new2 .ensures)
+returns c = rw (← c .before .before .zero .ensures, ← c .before .new .ensures, ← c .new2 .ensures)
 
 pub zero-spec : {M : Type 1} → statement M
-zero-spec =
-    tie.close
-    (tie.spec zero-requires zero-requires-2 zero-requires-3 new-requires new-requires-2 returns)
+zero-spec = tie.close (tie.spec zero-requires new-requires new-requires-2 returns)
