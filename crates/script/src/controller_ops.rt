@@ -119,17 +119,20 @@ fn shown(
     let ledger = alone.ledger();
     let config = alone.config();
     let controller = alone.controller();
-    let answered = line.with_u8(answer)
-        .with_flag(result)
-        .with_flag(config.enabled);
-    let cored = with_core(answered, controller.core());
-    let counted = with_tables(cored, controller)
+    let answered = line.with_u8(answer).with_flag(result);
+    let counted = with_controller(answered, config.enabled, controller)
         .with(ledger.calls())
         .with(ledger.last());
     ControllerPlayed {
         alone,
         line: with_digests(counted, controller, updates),
     }
+}
+
+// All but the digests of its tables.
+pub(crate) fn with_controller(line: Line, enabled: bool, controller: CongestionController) -> Line {
+    let cored = with_core(line.with_flag(enabled), controller.core());
+    with_tables(cored, controller)
 }
 
 // All but the tables.

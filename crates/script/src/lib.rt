@@ -15,6 +15,7 @@ mod queue_ops;
 mod rate_ops;
 mod rtt_ops;
 mod scorer_ops;
+mod station_ops;
 mod words;
 
 use coalescing_ops::BUFFER_BYTES;

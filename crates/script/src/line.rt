@@ -1,5 +1,7 @@
 // The line that answers a record, and how it is written.
 ghost use Prim.Native.Nat.{_≤_};
+use crate::digest::DIGEST_START;
+use crate::digest::joined;
 use crate::words::BATCH_RECORDS;
 use numeric::float::bits_of_f32;
 use numeric::float::bits_of_f64;
@@ -71,6 +73,19 @@ impl Line {
 
     pub(crate) fn with_f64(self, x: f64) -> Line {
         self.with(bits_of_f64(x))
+    }
+
+    // The digest of the numbers behind the operation's.
+    pub(crate) fn digest(self) -> u64 {
+        let numbers = self.numbers;
+        let count = held(self.count);
+        let mut digest = DIGEST_START;
+        let mut k: usize = 1;
+        while k < count {
+            digest = joined(digest, numbers[k]);
+            k += 1;
+        }
+        digest
     }
 
     // Writes the line and its end at a position, and answers the next position.

@@ -170,7 +170,7 @@ fn quiet(line: Line, answer: u8, alone: WriterPacerAlone) -> PacerPlayed {
 }
 
 // Which action it is, then the class, sequence and length of a sent record, and the wait.
-fn with_action(line: Line, action: SendAction) -> Line {
+pub(crate) fn with_action(line: Line, action: SendAction) -> Line {
     match action {
         SendAction::Send {
             class,
@@ -203,25 +203,35 @@ fn with_pacer(line: Line, alone: WriterPacerAlone) -> Line {
 }
 
 fn with_parts(line: Line, core: PacerCore, ledger: Ledger, words: &[u64]) -> Line {
-    let numbered = with_core(line, core).with(writer_pacer::total_bytes_p2(words, 0));
-    with_metrics(numbered, writer_pacer::metrics(words, 0))
+    with_fields(line, core, words, 0)
         .with(ledger.calls())
         .with(ledger.last())
-        .with(waiting(core, words))
+        .with(waiting(core, words, 0))
+}
+
+// All of pacer i but the digest of what waits.
+pub(crate) fn with_fields(line: Line, core: PacerCore, words: &[u64], i: u8) -> Line {
+    let numbered = with_core(line, core).with(writer_pacer::total_bytes_p2(words, i));
+    with_metrics(numbered, writer_pacer::metrics(words, i))
 }
 
 // The bucket, the lengths of the queues and the next sequence numbers.
 fn with_core(line: Line, core: PacerCore) -> Line {
-    let bucket = core.tokens();
-    line.with(bucket.tokens())
-        .with(bucket.capacity())
-        .with_u32(bucket.rate())
-        .with(bucket.last_refill())
+    with_tokens(line, core)
         .with_u16(core.queue(Priority::P0).count())
         .with_u16(core.queue(Priority::P1).count())
         .with_u16(core.queue(Priority::P2).count())
         .with(core.next_sequence())
         .with(core.queue_p2().next_sequence())
+}
+
+// The bucket.
+pub(crate) fn with_tokens(line: Line, core: PacerCore) -> Line {
+    let bucket = core.tokens();
+    line.with(bucket.tokens())
+        .with(bucket.capacity())
+        .with_u32(bucket.rate())
+        .with(bucket.last_refill())
 }
 
 fn with_metrics(line: Line, metrics: WriterPacerMetrics) -> Line {
@@ -239,19 +249,19 @@ fn with_metrics(line: Line, metrics: WriterPacerMetrics) -> Line {
         .with(metrics.force_sends_p0)
 }
 
-// What waits, in the order of the classes.
-fn waiting(core: PacerCore, words: &[u64]) -> u64 {
-    let p0 = joined_class(DIGEST_START, core, words, Priority::P0);
-    let p1 = joined_class(p0, core, words, Priority::P1);
-    joined_class(p1, core, words, Priority::P2)
+// What waits of pacer i, in the order of the classes.
+pub(crate) fn waiting(core: PacerCore, words: &[u64], i: u8) -> u64 {
+    let p0 = joined_class(DIGEST_START, core, words, i, Priority::P0);
+    let p1 = joined_class(p0, core, words, i, Priority::P1);
+    joined_class(p1, core, words, i, Priority::P2)
 }
 
-fn joined_class(digest: u64, core: PacerCore, words: &[u64], class: Priority) -> u64 {
+fn joined_class(digest: u64, core: PacerCore, words: &[u64], i: u8, class: Priority) -> u64 {
     joined_ring(
         digest,
         core.queue(class),
         words,
-        entries::queue_at(0, class),
+        entries::queue_at(i, class),
         class,
     )
 }

@@ -17,6 +17,7 @@ use crate::queue_ops;
 use crate::rate_ops;
 use crate::rtt_ops;
 use crate::scorer_ops;
+use crate::station_ops;
 use crate::words::BATCH_BYTES;
 use crate::words::Record;
 use crate::words::record_at;
@@ -31,6 +32,7 @@ use pacing::writer_pacer::WriterPacerAlone;
 use signals::ecn::EcnProcessorAlone;
 use signals::rtt_estimator::PeerRttTrackerAlone;
 use signals::rtt_estimator::RttEstimatorAlone;
+use station::station::Station;
 
 // The suites: an operation's number over 16.
 const NUMERIC: u64 = 1;
@@ -59,11 +61,15 @@ const ALLOCATOR: u64 = 12;
 
 const CONTROLLER: u64 = 13;
 
-// The byte buffer and the pool are lent beside them. The queue and the pacer are large: each is moved by its own operations only.
+const STATION: u64 = 14;
+
+// The byte buffer and the pool are lent beside them. The queue, the pacer and the station are large: each is moved by its own
+// operations only.
 pub(crate) struct Modules {
     small: SmallModules,
     queue: CoalescingQueueAlone,
     pacer: WriterPacerAlone,
+    station: Station,
 }
 
 // The other modules, and how much of the byte buffer and of the pool is in use.
@@ -95,14 +101,25 @@ pub(crate) struct BatchPlayed {
 impl Modules {
     // Before the first record.
     pub(crate) fn new() -> Modules {
-        Modules::of(SmallModules::new(), queue_ops::first(), pacer_ops::first())
+        Modules::of(
+            SmallModules::new(),
+            queue_ops::first(),
+            pacer_ops::first(),
+            station_ops::first(),
+        )
     }
 
-    fn of(small: SmallModules, queue: CoalescingQueueAlone, pacer: WriterPacerAlone) -> Modules {
+    fn of(
+        small: SmallModules,
+        queue: CoalescingQueueAlone,
+        pacer: WriterPacerAlone,
+        station: Station,
+    ) -> Modules {
         Modules {
             small,
             queue,
             pacer,
+            station,
         }
     }
 
@@ -118,6 +135,7 @@ impl Modules {
         let mut small = self.small;
         let mut queue = self.queue;
         let mut pacer = self.pacer;
+        let mut station = self.station;
         let mut written: usize = 0;
         let mut k: usize = 0;
         while k < records {
@@ -133,6 +151,18 @@ impl Modules {
                     pacer = played.alone;
                     written = played.line.write(out, written);
                 }
+                STATION => {
+                    let played = station_ops::play(
+                        station,
+                        small.config,
+                        bytes,
+                        pool,
+                        small.spans,
+                        r,
+                    );
+                    station = played.station;
+                    written = played.line.write(out, written);
+                }
                 _ => {
                     let played = small.play(bytes, pool, r);
                     small = played.modules;
@@ -142,7 +172,7 @@ impl Modules {
             k += 1;
         }
         BatchPlayed {
-            modules: Modules::of(small, queue, pacer),
+            modules: Modules::of(small, queue, pacer, station),
             written,
         }
     }

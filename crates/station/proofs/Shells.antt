@@ -213,7 +213,7 @@ tos-parts s time tos = called-parts s (answerOf (timedChecks (s .ledger) time)) 
 
 -- ---- a rate shared out
 
-abbrev rateIn : CoreLeft → ℕ
+abbrev pub rateIn : CoreLeft → ℕ
 rateIn x = x .core .«rate_controller» .«current_rate»
 
 abbrev tickLeft : Station → ℕ → ℕ → ControllerCore → Bool → Bool → CoreLeft
@@ -265,7 +265,7 @@ rated-parts s time rate =
 
 -- ---- the tables
 
-abbrev trackerIn : Station → TrackerLeft → StationAnswer
+abbrev pub trackerIn : Station → TrackerLeft → StationAnswer
 trackerIn s x =
     answerWith (x .answer) false (stationOf (x .ledger) (s .config) (controllerOf (s .controller .core) (x .tracker) (s .controller .allocator)) (s .roster) (s .words))
 
@@ -287,7 +287,7 @@ unfolding rttStation sampledTracker leftBy sampled fullForPeer
 rtt-parts s time peer rtt =
     rtt-case s time (answerOf (rttOn s time peer rtt)) (trackerUpdated (s .controller .tracker) time peer rtt) (eqb (answerOf (rttOn s time peer rtt)) 0) (s .config .controller .enabled)
 
-abbrev rosterIn : Station → RosterLeft → StationAnswer
+abbrev pub rosterIn : Station → RosterLeft → StationAnswer
 rosterIn s x =
     answerWith (x .answer) false (stationOf (x .ledger) (s .config) (controllerOf (s .controller .core) (s .controller .tracker) (x .allocator)) (x .roster) (s .words))
 

@@ -14,3 +14,9 @@ pub fn of_bytes(bytes: &[u8]) -> u64 {
         .iter()
         .fold(START, |digest, &byte| joined(digest, byte.into()))
 }
+
+pub fn of(values: &[u64]) -> u64 {
+    values
+        .iter()
+        .fold(START, |digest, &value| joined(digest, value))
+}

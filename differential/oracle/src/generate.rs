@@ -8,6 +8,7 @@ mod bucket;
 mod coalescing;
 mod config;
 mod controller;
+pub mod doors;
 mod ecn;
 mod numeric;
 mod pacer;
@@ -18,6 +19,8 @@ mod records;
 mod rtt;
 mod scorer;
 mod settings;
+mod station;
+pub mod tapes;
 mod times;
 mod values;
 
@@ -28,7 +31,7 @@ pub struct Suite {
     episode: fn(&mut Script, &mut Random, u64),
 }
 
-pub static SUITES: [Suite; 13] = [
+pub static SUITES: [Suite; 14] = [
     Suite {
         name: "numeric",
         boundary: numeric::boundary,
@@ -94,6 +97,11 @@ pub static SUITES: [Suite; 13] = [
         boundary: controller::boundary,
         episode: controller::episode,
     },
+    Suite {
+        name: "station",
+        boundary: station::boundary,
+        episode: station::episode,
+    },
 ];
 
 /// A fixed list of calls that can be printed by its name; it stands among its suite's boundary cases too.
@@ -102,7 +110,7 @@ pub struct Case {
     calls: fn(&mut Script),
 }
 
-pub static CASES: [Case; 8] = [
+pub static CASES: [Case; 14] = [
     Case {
         name: "accident",
         calls: pacer::accident,
@@ -134,6 +142,30 @@ pub static CASES: [Case; 8] = [
     Case {
         name: "factor-one",
         calls: controller::factor_one,
+    },
+    Case {
+        name: "station-eagain",
+        calls: station::eagain,
+    },
+    Case {
+        name: "station-lengths",
+        calls: station::lengths,
+    },
+    Case {
+        name: "station-peers",
+        calls: station::peers,
+    },
+    Case {
+        name: "station-times",
+        calls: station::times,
+    },
+    Case {
+        name: "station-full-p0",
+        calls: station::full_p0,
+    },
+    Case {
+        name: "station-accident",
+        calls: station::accident,
     },
 ];
 

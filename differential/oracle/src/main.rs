@@ -6,7 +6,9 @@ mod compare;
 #[allow(dead_code)] // The Rust as it stands; the scripts reach part of it.
 mod congestion;
 mod digest;
+mod doors;
 mod generate;
+mod judge;
 mod line;
 mod operation;
 mod overflow;
@@ -15,6 +17,8 @@ mod random;
 mod refusal;
 mod script;
 mod show;
+mod station;
+mod tape;
 
 use std::fs::File;
 use std::io::{self, BufReader, BufWriter, Write};
@@ -28,9 +32,16 @@ usage: oracle play < SCRIPT                        the Rust's answer to each cal
        oracle case NAME                            a named case as text, each call and the Rust's line below it
        oracle compare SCRIPT ORACLE_LINES REPLAY_LINES
                                                    how many lines differ, and the first three
+       oracle judge SCRIPT LINES                   holds a station's lines against the book, the allowance and the waits
+       oracle rewrite < SCRIPT                     the script with every byte of every record changed
+       oracle alike SCRIPT LINES OTHER_LINES       holds the lines of a script against those of the rewritten one
        oracle suites                               the names of the suites
        oracle cases                                the names of the named cases
-Exit status: 0 done, or no difference; 1 differences; 2 bad usage, or a file that cannot be read.";
+       oracle doors generate --requests N --seed S [--short]
+                                                   requests to the C functions, one line each
+       oracle doors answer < REQUESTS              each request with the Rust's answer behind it
+       oracle tape, oracle tapes                   tapes of document 01; 'oracle help' has more
+Exit status: 0 done, or no difference; 1 differences or violations; 2 bad usage, or a file that cannot be read.";
 
 fn main() -> ExitCode {
     let words: Vec<String> = std::env::args().skip(1).collect();
@@ -59,6 +70,11 @@ fn run(words: &[&str]) -> Result<bool, String> {
         ["compare", script, oracle, replay] => {
             compare::compare(open(script)?, open(oracle)?, open(replay)?, output).map_err(text)
         }
+        ["judge", script, lines] => judge::judge(open(script)?, open(lines)?, output).map_err(text),
+        ["rewrite"] => done(judge::contents::rewrite(input, output)),
+        ["alike", script, lines, others] => {
+            judge::contents::alike(open(script)?, open(lines)?, open(others)?, output).map_err(text)
+        }
         ["suites"] => {
             for suite in &generate::SUITES {
                 println!("{}", suite.name);
@@ -71,8 +87,12 @@ fn run(words: &[&str]) -> Result<bool, String> {
             }
             Ok(true)
         }
+        ["tape", options @ ..] => tape::command::tape(options),
+        ["tapes", words @ ..] => tape::command::tapes(words),
+        ["doors", "generate", options @ ..] => requests(options, output),
+        ["doors", "answer"] => done(doors::answer(input, output)),
         ["help" | "--help"] => {
-            println!("{USAGE}");
+            println!("{USAGE}\n{}", tape::command::USAGE);
             Ok(true)
         }
         _ => Err(USAGE.into()),
@@ -109,6 +129,19 @@ fn generate(mut options: &[&str], mut output: impl Write) -> Result<bool, String
     script.write(&mut output).map_err(text)?;
     if cut {
         output.write_all(&[16; 47]).map_err(text)?;
+    }
+    done(output.flush())
+}
+
+fn requests(options: &[&str], mut output: impl Write) -> Result<bool, String> {
+    let (count, seed, short) = match options {
+        ["--requests", count, "--seed", seed] => (count, seed, false),
+        ["--requests", count, "--seed", seed, "--short"] => (count, seed, true),
+        _ => return Err(USAGE.into()),
+    };
+    let (count, seed) = (whole_number(count)?, whole_number(seed)?);
+    for request in generate::doors::requests(count as usize, seed, short) {
+        writeln!(output, "{}", request.text()).map_err(text)?;
     }
     done(output.flush())
 }

@@ -94,3 +94,17 @@ pub const CONTROLLER_TOS: u64 = 214;
 pub const CONTROLLER_CE: u64 = 215;
 pub const CONTROLLER_SET_RATE: u64 = 216;
 pub const CONTROLLER_CALLS: u64 = 217;
+
+pub const STATION_NEW: u64 = 224;
+pub const STATION_REGISTER: u64 = 225;
+pub const STATION_EAGAIN: u64 = 226;
+pub const STATION_TOS: u64 = 227;
+pub const STATION_NACKS: u64 = 228;
+pub const STATION_RTT: u64 = 229;
+pub const STATION_TICK: u64 = 230;
+pub const STATION_SET_RATE: u64 = 231;
+pub const STATION_HAND_IN: u64 = 232;
+pub const STATION_SEND: u64 = 233;
+pub const STATION_CALLS: u64 = 234;
+pub const STATION_PLACE: u64 = 235;
+pub const STATION_CONTROLLER: u64 = 236;

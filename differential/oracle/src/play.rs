@@ -18,9 +18,10 @@ pub mod pacer;
 mod peers;
 pub mod pool;
 mod queue;
-mod rate;
+pub mod rate;
 mod rtt;
 pub mod scorer;
+mod station;
 
 /// Lines are written out once there are this many bytes of them.
 const WRITTEN_AT: usize = 1 << 16;
@@ -43,6 +44,7 @@ struct Player {
     scorer: scorer::Scorer,
     allocator: allocator::Allocator,
     controller: controller::Controller,
+    station: station::Station,
 }
 
 impl Player {
@@ -71,6 +73,13 @@ impl Player {
             176..=182 => self.scorer.play(record, self.config.settings(), lines),
             192..=198 => self.allocator.play(record, self.config.settings(), lines),
             208..=217 => self.controller.play(record, self.config.settings(), lines),
+            224..=236 => self.station.play(
+                record,
+                self.config.settings(),
+                self.bytes.bytes(),
+                &mut self.pool,
+                lines,
+            ),
             _ => {}
         }
         lines.end();

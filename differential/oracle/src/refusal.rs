@@ -8,6 +8,8 @@ pub const LENGTH: u64 = 3;
 pub const RTT: u64 = 4;
 /// A writer's weight; it shares the number of an RTT sample.
 pub const WEIGHT: u64 = 4;
+/// An unknown class or word kind, or a tape that breaks off.
+pub const TAPE: u64 = 5;
 /// A rate, a bucket's capacity or a byte count.
 pub const RATE: u64 = 6;
 pub const TIME: u64 = 7;
@@ -17,6 +19,10 @@ pub const EARLIER: u64 = 11;
 pub const P0_FULL: u64 = 12;
 pub const DISABLED: u64 = 13;
 pub const FULL: u64 = 14;
+/// A writer that is not registered.
+pub const NO_WRITER: u64 = 15;
+/// An id that is in the station already.
+pub const KNOWN_ID: u64 = 16;
 pub const CALLS: u64 = 17;
 
 pub const MAX_TIME: u64 = 1 << 62;

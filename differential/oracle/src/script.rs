@@ -24,7 +24,7 @@ impl Record {
         }
     }
 
-    fn to_bytes(self) -> [u8; RECORD_BYTES] {
+    pub fn to_bytes(self) -> [u8; RECORD_BYTES] {
         let mut bytes = [0; RECORD_BYTES];
         bytes[..8].copy_from_slice(&self.operation.to_le_bytes());
         for (i, argument) in self.arguments.iter().enumerate() {

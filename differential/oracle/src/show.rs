@@ -80,6 +80,7 @@ pub fn text(record: &Record) -> String {
         SCORER_NEW..=SCORER_CALLS => scorer(record),
         ALLOCATOR_NEW..=ALLOCATOR_SHOW => allocator(record),
         CONTROLLER_NEW..=CONTROLLER_CALLS => controller(record),
+        STATION_NEW..=STATION_CONTROLLER => station(record),
         unknown => format!("unknown operation {unknown} {:?}", record.arguments),
     }
 }
@@ -198,6 +199,32 @@ fn controller(record: &Record) -> String {
         CONTROLLER_CE => "on_ecn_ce()".into(),
         CONTROLLER_SET_RATE => format!("the controller's set_rate at time {a} to {b}"),
         _ => format!("the controller's call count becomes {a}"),
+    }
+}
+
+fn station(record: &Record) -> String {
+    let [a, b, c, d, e] = record.arguments;
+    match record.operation {
+        STATION_NEW => format!("a new station at time {a}"),
+        STATION_REGISTER => format!("the station at time {a}: register of id {b} in P{}", c % 3),
+        STATION_EAGAIN => format!("the station at time {a}: EAGAIN"),
+        STATION_TOS => format!("the station at time {a}: TOS byte {b:#04x}"),
+        STATION_NACKS => format!("the station at time {a}: {b} NACKs"),
+        STATION_RTT => format!(
+            "the station at time {a}: RTT of peer {b}, sample {}",
+            f32_text(c)
+        ),
+        STATION_TICK => format!("the station at time {a}: tick"),
+        STATION_SET_RATE => format!("the station at time {a}: set rate to {b}"),
+        STATION_HAND_IN => format!(
+            "the station at time {a}: hand-in to pacer {} in P{}, key {d:#018x}, {e:#018x}",
+            b as u8,
+            c % 3
+        ),
+        STATION_SEND => format!("the station at time {a}: send attempt of pacer {}", b as u8),
+        STATION_CALLS => format!("the station's call count becomes {a}"),
+        STATION_PLACE => format!("pacer {} of the station is shown", a % 4),
+        _ => "the station's controller is shown".into(),
     }
 }
 

@@ -6,7 +6,7 @@ use crate::random::Random;
 use crate::script::Script;
 
 /// FNV-1a, 64 bits: vectors that its authors publish.
-const PUBLISHED: [(&[u8], u64); 29] = [
+pub const PUBLISHED: [(&[u8], u64); 29] = [
     (b"", 0xcbf2_9ce4_8422_2325),
     (b"a", 0xaf63_dc4c_8601_ec8c),
     (b"b", 0xaf63_df4c_8601_f1a5),

@@ -12,7 +12,7 @@ const SOFT: u64 = 2;
 const HARD: u64 = 3;
 
 /// From 16,777,217 on some have no f32 of their own.
-const RATES: [u64; 26] = [
+pub const RATES: [u64; 26] = [
     1,
     2,
     3,
@@ -53,7 +53,7 @@ const STEPS: [u64; 8] = [
 const REFUSED_RATES: [u64; 3] = [RATE_LIMIT + 1, 1 << 31, u32::MAX as u64];
 
 /// Factors that are accepted, at the ends of their range too.
-fn factors() -> [u64; 10] {
+pub fn factors() -> [u64; 10] {
     [
         bits(f32::from_bits(1)),
         bits(1e-38),
@@ -69,7 +69,7 @@ fn factors() -> [u64; 10] {
 }
 
 /// Factors that are refused.
-fn refused_factors() -> [u64; 9] {
+pub fn refused_factors() -> [u64; 9] {
     [
         bits(0.0),
         bits(-0.0),

@@ -192,7 +192,7 @@ pub fn updates_digest(updates: &[WriterBudgetUpdate]) -> u64 {
 }
 
 /// The writers by class and then by id; the Rust keeps them in a HashMap.
-fn table(allocator: &BudgetAllocator) -> Vec<(WriterId, &WriterInfo)> {
+pub fn table(allocator: &BudgetAllocator) -> Vec<(WriterId, &WriterInfo)> {
     let mut writers: Vec<_> = allocator.writers().collect();
     writers.sort_by_key(|(id, writer)| (writer.priority.as_u8(), *id));
     writers

@@ -83,6 +83,15 @@ fn beyond(config: &CongestionConfig) -> bool {
         || !(1..=128).contains(&config.max_queue_p2)
 }
 
+/// The queue limits of P0, P1 and P2.
+pub fn limits(config: &CongestionConfig) -> [usize; 3] {
+    [
+        config.max_queue_p0,
+        config.max_queue_p1,
+        config.max_queue_p2,
+    ]
+}
+
 pub fn set(config: &mut CongestionConfig, field: u64, value: u64) {
     match field {
         0 => config.enabled = value & 1 == 1,

@@ -61,7 +61,8 @@ impl Controller {
             signal => self.signal(signal, a),
         };
         lines.numbers(&[told.answer, told.result]);
-        self.state(lines);
+        lines.numbers(&fields(&self.controller));
+        lines.numbers(&[self.ledger.calls, self.ledger.last]);
         lines.number(allocator::writers_digest(self.controller.allocator()));
         lines.number(allocator::updates_digest(&told.updates));
         lines.number(peers::digest(self.controller.rtt_tracker(), &self.peers));
@@ -170,26 +171,30 @@ impl Controller {
     pub fn controller(&self) -> &CongestionController {
         &self.controller
     }
+}
 
-    fn state(&self, lines: &mut Lines) {
-        let controller = &self.controller;
-        lines.number(controller.is_enabled());
-        lines.number(controller.current_rate());
-        lines.numbers(&scorer::score_and_state(controller.scorer()));
-        lines.number(controller.last_tick().nanoseconds());
-        lines.number(controller.nack_count_window());
-        lines.number(controller.nack_window_start().nanoseconds());
-        let metrics = controller.metrics();
-        lines.number(metrics.current_rate_bps);
-        lines.numbers(&[metrics.eagain_total, metrics.ecn_ce_received]);
-        lines.numbers(&scorer::state(controller.scorer()));
-        lines.numbers(&rate::history(controller.rate_controller()));
-        lines.numbers(&controller.ecn_processor().map_or([0; 8], ecn::state));
-        lines.numbers(&allocator::state(controller.allocator()));
-        lines.number(controller.rtt_tracker().any_inflated());
-        lines.number(controller.rtt_tracker().peer_count() as u64);
-        lines.numbers(&[self.ledger.calls, self.ledger.last]);
-    }
+/// All but the digests of its tables.
+pub fn fields(controller: &CongestionController) -> Vec<u64> {
+    let (metrics, tracker) = (controller.metrics(), controller.rtt_tracker());
+    let mut fields = vec![
+        controller.is_enabled().into(),
+        controller.current_rate().into(),
+    ];
+    fields.extend(scorer::score_and_state(controller.scorer()));
+    fields.extend([
+        controller.last_tick().nanoseconds(),
+        controller.nack_count_window().into(),
+        controller.nack_window_start().nanoseconds(),
+        metrics.current_rate_bps.into(),
+        metrics.eagain_total,
+        metrics.ecn_ce_received,
+    ]);
+    fields.extend(scorer::state(controller.scorer()));
+    fields.extend(rate::history(controller.rate_controller()));
+    fields.extend(controller.ecn_processor().map_or([0; 8], ecn::state));
+    fields.extend(allocator::state(controller.allocator()));
+    fields.extend([tracker.any_inflated().into(), tracker.peer_count() as u64]);
+    fields
 }
 
 /// A new controller, or the number by which it is refused.
@@ -214,7 +219,7 @@ fn refused(answer: u64, lines: &mut Lines) {
 
 /// The Rust's tick. Where a decrease is called for and its product is above the rate, the Rust panics: by then the last
 /// tick, the NACK window and the scorer have moved, and the rate has not. The port tells no change there.
-fn tick(controller: &mut CongestionController) -> Option<Vec<WriterBudgetUpdate>> {
+pub fn tick(controller: &mut CongestionController) -> Option<Vec<WriterBudgetUpdate>> {
     if !rate::rises(controller.rate_controller(), next_decrease(controller)) {
         return controller.tick();
     }

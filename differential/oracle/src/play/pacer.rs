@@ -16,7 +16,7 @@ use crate::refusal::{self, Ledger};
 use crate::script::Record;
 
 /// Action, class, sequence, length, wait and digest where nothing is sent.
-const NO_ACTION: [u64; 6] = [0, 0, 0, 0, 0, digest::START];
+pub const NO_ACTION: [u64; 6] = [0, 0, 0, 0, 0, digest::START];
 
 pub struct Pacer {
     pacer: WriterPacer,
@@ -34,7 +34,7 @@ impl Default for Pacer {
 
 impl Pacer {
     pub fn new(config: CongestionConfig, time: u64, rate: u32) -> Self {
-        let [p0, p1, p2] = limits(&config);
+        let [p0, p1, p2] = config::limits(&config);
         clock::set(time);
         Self {
             slots: [
@@ -189,7 +189,7 @@ impl Pacer {
 
     /// Of P0, P1 and P2.
     pub fn limits(&self) -> [usize; 3] {
-        limits(self.pacer.config())
+        config::limits(self.pacer.config())
     }
 
     /// How many slots it needs.
@@ -206,37 +206,39 @@ impl Pacer {
     }
 
     fn state(&self, lines: &mut Lines) {
-        let bucket = self.pacer.bucket();
-        lines.number(bucket.tokens_snapshot());
-        lines.number(bucket.capacity());
-        lines.number(bucket.rate());
-        lines.number(bucket.last_refill().nanoseconds());
-        let (p0, p1, p2) = self.pacer.queue_lengths();
-        lines.numbers(&[p0 as u64, p1 as u64, p2 as u64]);
-        lines.number(self.pacer.next_sequence());
-        lines.number(self.pacer.p2().next_sequence());
-        lines.number(self.pacer.p2().total_bytes() as u64);
-        lines.numbers(&counts(self.pacer.metrics()));
-        lines.numbers(&[self.ledger.calls, self.ledger.last, self.waiting()]);
-    }
-
-    /// The digest of what waits: P0's, P1's, then P2's.
-    fn waiting(&self) -> u64 {
-        let first = self.pacer.waiting_p0().iter();
-        let digest = first
-            .chain(self.pacer.waiting_p1())
-            .flat_map(|sample| [sample.sequence, sample.data.len() as u64])
-            .fold(digest::START, digest::joined);
-        joined_waiting(digest, self.pacer.p2())
+        lines.numbers(&fields(&self.pacer));
+        lines.numbers(&[self.ledger.calls, self.ledger.last, waiting(&self.pacer)]);
     }
 }
 
-fn limits(config: &CongestionConfig) -> [usize; 3] {
-    [
-        config.max_queue_p0,
-        config.max_queue_p1,
-        config.max_queue_p2,
-    ]
+/// The bucket, the lengths of P0, P1 and P2, the next sequence numbers, P2's bytes and the metrics.
+pub fn fields(pacer: &WriterPacer) -> Vec<u64> {
+    let (bucket, p2) = (pacer.bucket(), pacer.p2());
+    let lengths = pacer.queue_lengths();
+    let mut fields = vec![
+        bucket.tokens_snapshot(),
+        bucket.capacity(),
+        bucket.rate().into(),
+        bucket.last_refill().nanoseconds(),
+        lengths.0 as u64,
+        lengths.1 as u64,
+        lengths.2 as u64,
+        pacer.next_sequence(),
+        p2.next_sequence(),
+        p2.total_bytes() as u64,
+    ];
+    fields.extend(counts(pacer.metrics()));
+    fields
+}
+
+/// The digest of what waits: P0's, P1's, then P2's.
+pub fn waiting(pacer: &WriterPacer) -> u64 {
+    let first = pacer.waiting_p0().iter();
+    let digest = first
+        .chain(pacer.waiting_p1())
+        .flat_map(|sample| [sample.sequence, sample.data.len() as u64])
+        .fold(digest::START, digest::joined);
+    joined_waiting(digest, pacer.p2())
 }
 
 /// A new pacer, or the number by which it is refused.
@@ -270,7 +272,7 @@ pub fn class(number: u64) -> Priority {
     }
 }
 
-fn action_fields(action: &SendAction) -> [u64; 6] {
+pub fn action_fields(action: &SendAction) -> [u64; 6] {
     match action {
         SendAction::Empty => NO_ACTION,
         SendAction::Send(sample) => [

@@ -38,12 +38,21 @@ impl Pool {
         }
         lines.number(self.lent as u64);
         if record.operation == POOL_SHOW {
-            lines.number(digest::of_bytes(&self.bytes[..self.lent]));
+            lines.number(digest::of_bytes(self.lent()));
         }
     }
 
     pub fn lend(&mut self, bytes: u64) {
         self.lent = bytes.min(POOL_BYTES as u64) as usize;
+    }
+
+    /// The bytes that are lent.
+    pub fn lent(&self) -> &[u8] {
+        &self.bytes[..self.lent]
+    }
+
+    pub fn lent_mut(&mut self) -> &mut [u8] {
+        &mut self.bytes[..self.lent]
     }
 
     /// Fewer bytes are lent than `slots` slots have.

@@ -165,7 +165,7 @@ fn refused(answer: u64, lines: &mut Lines) {
 }
 
 /// Whether the rate changed. Where the product is above the rate, the Rust panics; the port keeps the rate.
-fn apply(controller: &mut RateController, action: CongestionAction) -> bool {
+pub fn apply(controller: &mut RateController, action: CongestionAction) -> bool {
     if !rises(controller, action) {
         return controller.apply_action(action).is_some();
     }
