@@ -1,0 +1,623 @@
+-- One item of a run at a time: its line, and the run's end from the next item on. Assumes nothing.
+use Prim.Native.Nat.{ℕ, _+_, _-_, _*_, _/_, _≤_, _<_, min, max}
+use mathlib.Core.Bool.{Bool, true, false, not, cond}
+use mathlib.Core.List.{List, [], _∷_, _++_, append-assoc, append-nil}
+use mathlib.Core.Path.{_≡_, refl, ap, ap₂, sym, subst, _∙_}
+use native.Mathlib.Decide.{decLe}
+use native.Mathlib.Omega.{arith}
+use denote.Enum.Declared.{tagOf}
+use types.Run.{OneOf, miss}
+use borrow.Author.Tests.{le-leb, le-ltb, lt-ltb, ltb-false}
+use lib.Dec.{leb, ltb, eqb}
+use lib.Ieee.{Float, binary32, ofBits}
+use lib.ListN.{length, take, drop, replicate, length-append}
+use Rattle.config.specs.Ledger.{opened, moved, timedChecks, rateChecks}
+use Rattle.config.specs.Refusal.{answerOf}
+use Rattle.config.specs.declared.config.CongestionConfig.{CongestionConfig}
+use Rattle.config.specs.declared.config.Priority.{Priority}
+use Rattle.config.specs.declared.ledger.Ledger.{Ledger}
+use Rattle.pacing.specs.WriterPacer as pacer
+use Rattle.pacing.specs.declared.coalescing.InstanceKey.{InstanceKey}
+use Rattle.pacing.specs.declared.writer_pacer.Handed.{Handed}
+use Rattle.pacing.specs.declared.writer_pacer.PacerConfig.{PacerConfig}
+use Rattle.pacing.specs.declared.writer_pacer.PacerCore.{PacerCore}
+use Rattle.pacing.specs.declared.writer_pacer.SendTried.{SendTried}
+use Rattle.signals.specs.RttEstimator.{anyInflated, newTracker}
+use Rattle.signals.specs.declared.rtt_estimator.PeerRttTracker.{PeerRttTracker}
+use Rattle.control.specs.BudgetAllocator.{writersOf, newAllocator}
+use Rattle.control.specs.Controller.{coreTicked, coreSet, newCore, newController}
+use Rattle.control.specs.declared.controller.ControllerConfig.{ControllerConfig}
+use Rattle.control.specs.declared.controller.ControllerCore.{ControllerCore}
+use Rattle.control.specs.declared.budget_allocator.BudgetAllocator.{BudgetAllocator}
+use Rattle.station.specs.Parts.{handInChecksOn, sendChecksOn, coreLeft, calledCore, ratedCore, coreLeftBy, eagainCore, nacksCore, tosCore, tickedCore, sharedBy, registeredParts, sampledTracker}
+use Rattle.station.specs.Station.{stationConfigOf, stationOf, newRoster, writerAt, withPacer, handedStation, poolHanded, handInAnswer, sendAnswer, sentStation, eagainStation, nacksStation, tosStation, rttStation, tickedStation}
+use Rattle.station.specs.declared.parts.CoreLeft.{CoreLeft}
+use Rattle.station.specs.declared.roster.Roster.{Roster}
+use Rattle.station.specs.declared.parts.RosterLeft.{RosterLeft}
+use Rattle.station.specs.declared.parts.TrackerLeft.{TrackerLeft}
+use Rattle.station.specs.declared.station.Station.{Station}
+use Rattle.station.specs.declared.station.StationAnswer.{StationAnswer}
+use Rattle.station.specs.declared.station.StationConfig.{StationConfig}
+use Rattle.station.specs.declared.station.StationSent.{StationSent}
+use Rattle.station.proofs.Shells.{handed-parts, pool-parts, sent-parts, eagain-parts, nacks-parts, tos-parts, untold-shell, tick-shell, rated-parts, register-parts, rtt-parts, rosterIn, trackerIn, rateIn}
+use Rattle.tape.specs.Desk.{placeOf, deskOf, stationAt, playerAt, isFast, touchesTable, Onward, Further, endAt, Stands, saidDesk, sharedFor, updatesLine, unchangedLine, toldDesk, sharedDesk, sharedLines, endedWith, newStationWith}
+use Rattle.tape.specs.Item.{wordsOf, wordsFrom, wholeWords, itemAt, takes, stops, wordAfter, itemsFrom, Placed, placed, keyAt, bodyAt}
+use Rattle.tape.specs.Run.{Player, playerOf, Told, fields, updates, toldText, Line, lineOf, fieldsWhere, actionFields, rateTold, Step, silent, saying, called, plain, rated, sentBy, played, linesOf, textOf, restOf, Ending, endingOf, advanced, tapeSettings, newPlayer, tapeText, roomFor, runOf, ranTape, linesLeft}
+use Rattle.tape.specs.Text.{written, ended, header, fieldsText, lineText}
+use Rattle.tape.specs.declared.item.Item.{Item}
+use Rattle.tape.specs.declared.item.Item.the-variants.{End, Broken, Advance, Register, Eagain, Tos, Nacks, Rtt, Tick, HandIn, Send, SetRate}
+use Rattle.tape.specs.declared.run.Desk.{Desk}
+use Rattle.tape.specs.declared.run.Moved.{Moved}
+use Rattle.tape.specs.declared.run.Shared.{Shared}
+use Rattle.tape.specs.declared.text.Fields.{Fields}
+use Rattle.tape.specs.declared.text.Fields.the-variants.{Nothing, Flag, Unchanged}
+use Rattle.tape.proofs.Items.{items-first, items-next, items-end, items-broken, item-whole, item-inside, body-whole, takes-least}
+use Rattle.tape.proofs.item.Item.{the-type}
+use Rattle.tape.proofs.Texts.{written-written, ended-ended, length-written, fits, ended-fits}
+
+-- the bytes of a line
+abbrev spoken : Line → List ℕ
+spoken l = lineText (l .index) (l .answer) (toldText (l .told))
+
+pub not-both : false ≡ true → ⊥
+not-both e = omega (arith, ap (λ (b : Bool). cond {A = ℕ} b 1 0) e)
+
+pub not-true : (b : Bool) → not b ≡ true → b ≡ false
+not-true true e = absurd (not-both e)
+not-true false e = refl
+
+pub not-false : (b : Bool) → not b ≡ false → b ≡ true
+not-false true e = refl
+not-false false e = absurd (not-both (sym e))
+
+-- ---- the next item
+
+text-append : (a b : List Line) → textOf (a ++ b) ≡ textOf a ++ textOf b
+unfolding textOf
+text-append [] b = refl
+text-append (l ∷ a) b = rw (text-append a b) (sym (append-assoc (lineText (l .index) (l .answer) (toldText (l .told))) (textOf a) (textOf b)))
+
+-- behind an item that does not stop the tape comes the next
+pub after-whole : (bytes : List ℕ) (k : ℕ) → stops (itemAt bytes k) ≡ false → wordAfter bytes k (itemAt bytes k) ≡ k + takes (itemAt bytes k)
+unfolding wordAfter
+after-whole bytes k e = rw (le-leb (takes (itemAt bytes k)) (wordsFrom bytes k) (omega (arith, item-whole bytes k e)))
+
+-- what is left to say: this item's lines, and the rest
+rest-next :
+    (bytes : List ℕ) (p : Player) (k : ℕ) → stops (itemAt bytes k) ≡ false
+    → restOf bytes p k ≡ textOf (played bytes p k (itemAt bytes k) .lines) ++ restOf bytes (played bytes p k (itemAt bytes k) .player) (wordAfter bytes k (itemAt bytes k))
+unfolding linesOf
+rest-next bytes p k e =
+    rw (after-whole bytes k e, items-next bytes k e) (text-append (played bytes p k (itemAt bytes k) .lines) _)
+
+-- the lines of an item written, the run's end is that of the rest
+ending-next :
+    (bytes ls : List ℕ) (at : ℕ) (p : Player) (k : ℕ) → stops (itemAt bytes k) ≡ false → (text : List ℕ) → text ≡ textOf (played bytes p k (itemAt bytes k) .lines)
+    → endingOf bytes (written ls at text) (ended (length ls) at (length text)) (played bytes p k (itemAt bytes k) .player) (wordAfter bytes k (itemAt bytes k))
+    ≡ endingOf bytes ls at p k
+unfolding endingOf
+ending-next bytes ls at p k e text et =
+    ap₂ endedWith
+    (written-written ls at text rest ∙ ap (written ls at) joined)
+    (ap (λ (m : ℕ). ended m (ended (length ls) at (length text)) (length rest)) (length-written ls at text)
+    ∙ (ended-ended (length ls) at (length text) (length rest) ∙ ap (ended (length ls) at) (sym (length-append text rest) ∙ ap length joined)))
+  where
+    rest : List ℕ
+    rest = restOf bytes (played bytes p k (itemAt bytes k) .player) (wordAfter bytes k (itemAt bytes k))
+
+    joined : text ++ rest ≡ restOf bytes p k
+    joined = rw et (sym (rest-next bytes p k e))
+
+-- an item with one line
+said-ending :
+    (bytes ls : List ℕ) (at : ℕ) (p : Player) (k : ℕ) (item : Item) (line : Line) (q : Player) (next : ℕ)
+    → itemAt bytes k ≡ item → stops item ≡ false → played bytes p k item ≡ saying line q → next ≡ wordAfter bytes k item
+    → endingOf bytes (written ls at (spoken line)) (ended (length ls) at (length (spoken line))) q next ≡ endingOf bytes ls at p k
+unfolding textOf
+said-ending bytes ls at p k item line q next e es ep en =
+    let step : played bytes p k (itemAt bytes k) ≡ saying line q = ap (played bytes p k) e ∙ ep in
+    subst (λ (n : ℕ). endingOf bytes (written ls at (spoken line)) (ended (length ls) at (length (spoken line))) q n ≡ endingOf bytes ls at p k) (sym (en ∙ ap (wordAfter bytes k) (sym e)))
+    (subst (λ (x : Player). endingOf bytes (written ls at (spoken line)) (ended (length ls) at (length (spoken line))) x (wordAfter bytes k (itemAt bytes k)) ≡ endingOf bytes ls at p k) (ap (λ (x : Step). x .player) step)
+    (ending-next bytes ls at p k (ap stops e ∙ es) (spoken line) (sym (append-nil (spoken line)) ∙ ap (λ (x : Step). textOf (x .lines)) (sym step))))
+
+-- an item without a line
+silent-ending :
+    (bytes ls : List ℕ) (at : ℕ) (p : Player) (k : ℕ) (item : Item) (q : Player) (next : ℕ)
+    → itemAt bytes k ≡ item → stops item ≡ false → played bytes p k item ≡ silent q → next ≡ wordAfter bytes k item
+    → endingOf bytes ls at q next ≡ endingOf bytes ls at p k
+unfolding textOf written ended
+silent-ending bytes ls at p k item q next e es ep en =
+    let step : played bytes p k (itemAt bytes k) ≡ silent q = ap (played bytes p k) e ∙ ep in
+    let stays : max at (min (at + 0) (length ls)) ≡ at = omega arith in
+    subst (λ (n : ℕ). endingOf bytes ls at q n ≡ endingOf bytes ls at p k) (sym (en ∙ ap (wordAfter bytes k) (sym e)))
+    (subst (λ (x : Player). endingOf bytes ls at x (wordAfter bytes k (itemAt bytes k)) ≡ endingOf bytes ls at p k) (ap (λ (x : Step). x .player) step)
+    (subst (λ (n : ℕ). endingOf bytes ls n (played bytes p k (itemAt bytes k) .player) (wordAfter bytes k (itemAt bytes k)) ≡ endingOf bytes ls at p k) stays
+    (ending-next bytes ls at p k (ap stops e ∙ es) [] (ap (λ (x : Step). textOf (x .lines)) (sym step)))))
+
+-- ---- the items
+
+pub advance-ends :
+    (bytes ls : List ℕ) (c : StationConfig) (d : Desk) (t : PeerRttTracker) (a : BudgetAllocator) (words pool : List ℕ) (micros next : ℕ)
+    → Stands bytes d next (Advance micros)
+    → endAt bytes c ls (deskOf (placeOf next (d .place .at) (advanced (d .place .clock) micros)) (d .ledger) (d .core) (d .roster)) t a words pool ≡ endAt bytes c ls d t a words pool
+unfolding stops played
+advance-ends bytes ls c d t a words pool micros next h =
+    silent-ending bytes ls (d .place .at) (playerAt c d t a words pool) (d .place .word) (Advance micros) _ next (h .0) refl refl (h .1)
+
+-- what a hand-in of n bytes comes to on the parts
+abbrev pub handedOn : List ℕ → StationConfig → Desk → List ℕ → ℕ → ℕ → Priority → ℕ → Handed
+handedOn bytes c d words room i class n =
+    pacer.handedBy (answerOf (handInChecksOn (d .ledger) (c .pacer) (d .roster .count) room (d .place .clock) i n)) (d .ledger) (writerAt (d .roster) i .pacer) words (d .place .clock) i class (keyAt bytes (d .place .word) class)
+
+abbrev pub wordsHandedOn : List ℕ → StationConfig → Desk → List ℕ → ℕ → ℕ → Priority → ℕ → List ℕ
+wordsHandedOn bytes c d words room i class n =
+    pacer.wordsHandedBy (answerOf (handInChecksOn (d .ledger) (c .pacer) (d .roster .count) room (d .place .clock) i n)) (writerAt (d .roster) i .pacer) words i class (keyAt bytes (d .place .word) class) n
+
+abbrev pub poolHandedOn : List ℕ → StationConfig → Desk → List ℕ → List ℕ → ℕ → Priority → List ℕ → ℕ → List ℕ
+poolHandedOn bytes c d words pool i class sample n =
+    pacer.poolHandedBy (answerOf (handInChecksOn (d .ledger) (c .pacer) (d .roster .count) (length pool) (d .place .clock) i n)) (writerAt (d .roster) i .pacer) words (c .pacer .limits) i class (keyAt bytes (d .place .word) class) sample pool
+
+-- a desk whose pacer i a call has left
+abbrev pub pacedDesk : Desk → ℕ → ℕ → ℕ → Ledger → PacerCore → Desk
+pacedDesk d next at i l k = deskOf (placeOf next at (d .place .clock)) l (d .core) (withPacer (d .roster) i k)
+
+abbrev pub plainLine : Desk → ℕ → List ℕ
+plainLine d answer = lineText (d .place .word) answer (fieldsText Nothing)
+
+pub hand-in-ends :
+    (bytes ls : List ℕ) (c : StationConfig) (d : Desk) (t : PeerRttTracker) (a : BudgetAllocator) (words pool : List ℕ) (i : ℕ) (class : Priority) (n m next : ℕ)
+    → Stands bytes d next (HandIn i class n) → m ≡ length (bodyAt bytes (d .place .word) class n)
+    → endAt bytes c (written ls (d .place .at) (plainLine d (handedOn bytes c d words (length pool) i class m .answer)))
+    (pacedDesk d next (ended (length ls) (d .place .at) (length (plainLine d (handedOn bytes c d words (length pool) i class m .answer)))) i (handedOn bytes c d words (length pool) i class m .ledger) (handedOn bytes c d words (length pool) i class m .core))
+    t a (wordsHandedOn bytes c d words (length pool) i class m) (poolHandedOn bytes c d words pool i class (bodyAt bytes (d .place .word) class n) m)
+    ≡ endAt bytes c ls d t a words pool
+unfolding stops played
+hand-in-ends bytes ls c d t a words pool i class n m next h em =
+    subst (λ (m : ℕ). endAt bytes c (written ls (d .place .at) (plainLine d (handedOn bytes c d words (length pool) i class m .answer)))
+    (pacedDesk d next (ended (length ls) (d .place .at) (length (plainLine d (handedOn bytes c d words (length pool) i class m .answer)))) i (handedOn bytes c d words (length pool) i class m .ledger) (handedOn bytes c d words (length pool) i class m .core))
+    t a (wordsHandedOn bytes c d words (length pool) i class m) (poolHandedOn bytes c d words pool i class (bodyAt bytes (d .place .word) class n) m)
+    ≡ endAt bytes c ls d t a words pool) (sym (em ∙ body-whole bytes (d .place .word) i class n (h .0)))
+    (said-ending bytes ls (d .place .at) (playerAt c d t a words pool) (d .place .word) (HandIn i class n) _ _ next (h .0) refl
+    (ap₂ (λ (x : StationAnswer) (left : List ℕ). called (playerOf (stationAt c d t a words) (d .place .clock) left) (d .place .word) (fields Nothing) x)
+    (sym (handed-parts (stationAt c d t a words) (length pool) (d .place .clock) i class (keyAt bytes (d .place .word) class) n))
+    (sym (pool-parts (stationAt c d t a words) (length pool) (d .place .clock) i class (keyAt bytes (d .place .word) class) (bodyAt bytes (d .place .word) class n) n pool)))
+    (h .1))
+
+-- what a send attempt comes to on the parts
+abbrev pub triedOn : StationConfig → Desk → List ℕ → ℕ → ℕ → SendTried
+triedOn c d words room i =
+    pacer.sentBy (answerOf (sendChecksOn (d .ledger) (c .pacer) (d .roster .count) room (d .place .clock) i)) (c .pacer .enabled) (d .ledger) (writerAt (d .roster) i .pacer) words (d .place .clock) i
+
+abbrev pub wordsTriedOn : StationConfig → Desk → List ℕ → ℕ → ℕ → List ℕ
+wordsTriedOn c d words room i =
+    pacer.wordsSentBy (answerOf (sendChecksOn (d .ledger) (c .pacer) (d .roster .count) room (d .place .clock) i)) (c .pacer .enabled) (writerAt (d .roster) i .pacer) words (d .place .clock) i
+
+abbrev pub sentLine : Desk → SendTried → List ℕ
+sentLine d x = lineText (d .place .word) (x .answer) (fieldsText (fieldsWhere (x .answer) (actionFields (x .action))))
+
+pub send-ends :
+    (bytes ls : List ℕ) (c : StationConfig) (d : Desk) (t : PeerRttTracker) (a : BudgetAllocator) (words pool : List ℕ) (i next room : ℕ)
+    → Stands bytes d next (Send i) → length pool ≡ room
+    → endAt bytes c (written ls (d .place .at) (sentLine d (triedOn c d words room i)))
+    (pacedDesk d next (ended (length ls) (d .place .at) (length (sentLine d (triedOn c d words room i)))) i (triedOn c d words room i .ledger) (triedOn c d words room i .core))
+    t a (wordsTriedOn c d words room i) pool
+    ≡ endAt bytes c ls d t a words pool
+unfolding stops played
+send-ends bytes ls c d t a words pool i next room h er =
+    subst (λ (room : ℕ). endAt bytes c (written ls (d .place .at) (sentLine d (triedOn c d words room i)))
+    (pacedDesk d next (ended (length ls) (d .place .at) (length (sentLine d (triedOn c d words room i)))) i (triedOn c d words room i .ledger) (triedOn c d words room i .core))
+    t a (wordsTriedOn c d words room i) pool
+    ≡ endAt bytes c ls d t a words pool) er
+    (said-ending bytes ls (d .place .at) (playerAt c d t a words pool) (d .place .word) (Send i) _ _ next (h .0) refl
+    (ap (sentBy (playerAt c d t a words pool) (d .place .word)) (sym (sent-parts (stationAt c d t a words) (length pool) (d .place .clock) i))) (h .1))
+
+-- a call on the core
+abbrev pub coreLine : Desk → CoreLeft → Fields → List ℕ
+coreLine d x f = lineText (d .place .word) (x .answer) (fieldsText f)
+
+pub core-ends :
+    (bytes ls : List ℕ) (c : StationConfig) (d : Desk) (t : PeerRttTracker) (a : BudgetAllocator) (words pool : List ℕ) (item : Item) (next : ℕ)
+    (told : StationAnswer → Told) (x : StationAnswer) (left : CoreLeft) (f : Fields)
+    → Stands bytes d next item → stops item ≡ false
+    → played bytes (playerAt c d t a words pool) (d .place .word) item ≡ called (playerAt c d t a words pool) (d .place .word) (told x) x
+    → coreLeftBy (stationAt c d t a words) left ≡ x → told (coreLeftBy (stationAt c d t a words) left) ≡ fields f
+    → endAt bytes c (written ls (d .place .at) (coreLine d left f)) (saidDesk d next left (ended (length ls) (d .place .at) (length (coreLine d left f)))) t a words pool
+    ≡ endAt bytes c ls d t a words pool
+core-ends bytes ls c d t a words pool item next told x left f h es ep ex ef =
+    said-ending bytes ls (d .place .at) (playerAt c d t a words pool) (d .place .word) item _ _ next (h .0) es
+    (ep ∙ (ap (λ (y : StationAnswer). called (playerAt c d t a words pool) (d .place .word) (told y) y) (sym ex)
+    ∙ ap (λ (y : Told). called (playerAt c d t a words pool) (d .place .word) y (coreLeftBy (stationAt c d t a words) left)) ef)) (h .1)
+
+pub eagain-ends :
+    (bytes ls : List ℕ) (c : StationConfig) (d : Desk) (t : PeerRttTracker) (a : BudgetAllocator) (words pool : List ℕ) (next : ℕ) (left : CoreLeft)
+    → Stands bytes d next Eagain → left ≡ eagainCore (d .ledger) (c .controller) (d .core) (d .place .clock)
+    → endAt bytes c (written ls (d .place .at) (coreLine d left Nothing)) (saidDesk d next left (ended (length ls) (d .place .at) (length (coreLine d left Nothing)))) t a words pool
+    ≡ endAt bytes c ls d t a words pool
+unfolding stops played
+eagain-ends bytes ls c d t a words pool next left h e =
+    core-ends bytes ls c d t a words pool Eagain next (λ (x : StationAnswer). fields Nothing) _ left Nothing h refl refl
+    (ap (coreLeftBy (stationAt c d t a words)) e ∙ eagain-parts (stationAt c d t a words) (d .place .clock)) refl
+
+pub nacks-ends :
+    (bytes ls : List ℕ) (c : StationConfig) (d : Desk) (t : PeerRttTracker) (a : BudgetAllocator) (words pool : List ℕ) (next count : ℕ) (left : CoreLeft)
+    → Stands bytes d next (Nacks count) → left ≡ nacksCore (d .ledger) (c .controller) (d .core) (d .place .clock) count
+    → endAt bytes c (written ls (d .place .at) (coreLine d left Nothing)) (saidDesk d next left (ended (length ls) (d .place .at) (length (coreLine d left Nothing)))) t a words pool
+    ≡ endAt bytes c ls d t a words pool
+unfolding stops played
+nacks-ends bytes ls c d t a words pool next count left h e =
+    core-ends bytes ls c d t a words pool (Nacks count) next (λ (x : StationAnswer). fields Nothing) _ left Nothing h refl refl
+    (ap (coreLeftBy (stationAt c d t a words)) e ∙ nacks-parts (stationAt c d t a words) (d .place .clock) count) refl
+
+pub tos-ends :
+    (bytes ls : List ℕ) (c : StationConfig) (d : Desk) (t : PeerRttTracker) (a : BudgetAllocator) (words pool : List ℕ) (next tos : ℕ) (left : CoreLeft) (f : Fields)
+    → Stands bytes d next (Tos tos) → left ≡ tosCore (d .ledger) (c .controller) (d .core) (d .place .clock) tos → f ≡ fieldsWhere (left .answer) (Flag (left .told))
+    → endAt bytes c (written ls (d .place .at) (coreLine d left f)) (saidDesk d next left (ended (length ls) (d .place .at) (length (coreLine d left f)))) t a words pool
+    ≡ endAt bytes c ls d t a words pool
+unfolding stops played
+tos-ends bytes ls c d t a words pool next tos left f h e ef =
+    core-ends bytes ls c d t a words pool (Tos tos) next (λ (x : StationAnswer). fields (fieldsWhere (x .answer) (Flag (x .told)))) _ left f h refl refl
+    (ap (coreLeftBy (stationAt c d t a words)) e ∙ tos-parts (stationAt c d t a words) (d .place .clock) tos) (ap fields (sym ef))
+
+-- a tick or a rate setting that gives no new budgets
+abbrev unchanged : CoreLeft → Fields
+unchanged x = fieldsWhere (x .answer) Unchanged
+
+untold-ends :
+    (bytes ls : List ℕ) (c : StationConfig) (d : Desk) (t : PeerRttTracker) (a : BudgetAllocator) (words pool : List ℕ) (item : Item) (next rate : ℕ) (x : StationAnswer) (left : CoreLeft)
+    → Stands bytes d next item → stops item ≡ false
+    → played bytes (playerAt c d t a words pool) (d .place .word) item ≡ rated (playerAt c d t a words pool) (d .place .word) x
+    → sharedBy (stationAt c d t a words) left (d .place .clock) rate ≡ x → left .told ≡ false
+    → endAt bytes c (written ls (d .place .at) (coreLine d left (unchanged left))) (saidDesk d next left (ended (length ls) (d .place .at) (length (coreLine d left (unchanged left))))) t a words pool
+    ≡ endAt bytes c ls d t a words pool
+unfolding rateTold
+untold-ends bytes ls c d t a words pool item next rate x left h es ep ex et =
+    core-ends bytes ls c d t a words pool item next rateTold x left (unchanged left) h es ep
+    (untold-shell (stationAt c d t a words) left (d .place .clock) rate et ∙ ex) (rw et refl)
+
+pub tick-ends :
+    (bytes ls : List ℕ) (c : StationConfig) (d : Desk) (t : PeerRttTracker) (a : BudgetAllocator) (words pool : List ℕ) (next : ℕ) (inflated : Bool) (left : CoreLeft) (f : Fields)
+    → Stands bytes d next Tick → inflated ≡ anyInflated t → left ≡ tickedCore (d .ledger) (c .controller) (d .core) inflated (d .place .clock)
+    → left .told ≡ false → f ≡ unchanged left
+    → endAt bytes c (written ls (d .place .at) (coreLine d left f)) (saidDesk d next left (ended (length ls) (d .place .at) (length (coreLine d left f)))) t a words pool
+    ≡ endAt bytes c ls d t a words pool
+unfolding stops played
+tick-ends bytes ls c d t a words pool next inflated left f h ei e et ef =
+    subst (λ (f : Fields). endAt bytes c (written ls (d .place .at) (coreLine d left f)) (saidDesk d next left (ended (length ls) (d .place .at) (length (coreLine d left f)))) t a words pool ≡ endAt bytes c ls d t a words pool) (sym ef)
+    (untold-ends bytes ls c d t a words pool Tick next _ _ left h refl refl
+    (tick-shell (stationAt c d t a words) (d .place .clock) _ left (d .core) t inflated refl refl ei e refl) et)
+
+-- ---- the items that touch a table
+
+pub register-ends :
+    (bytes ls : List ℕ) (c : StationConfig) (d : Desk) (t : PeerRttTracker) (a : BudgetAllocator) (words pool : List ℕ) (class : Priority) (id next : ℕ) (x : RosterLeft)
+    → Stands bytes d next (Register class id) → x ≡ registeredParts (d .ledger) (c .pacer) a (d .roster) (d .place .clock) id class
+    → endAt bytes c (written ls (d .place .at) (plainLine d (x .answer))) (deskOf (placeOf next (ended (length ls) (d .place .at) (length (plainLine d (x .answer)))) (d .place .clock)) (x .ledger) (d .core) (x .roster)) t (x .allocator) words pool
+    ≡ endAt bytes c ls d t a words pool
+unfolding stops played
+register-ends bytes ls c d t a words pool class id next x h e =
+    said-ending bytes ls (d .place .at) (playerAt c d t a words pool) (d .place .word) (Register class id) _ _ next (h .0) refl
+    (ap (plain (playerAt c d t a words pool) (d .place .word))
+    (sym (ap (rosterIn (stationAt c d t a words)) e ∙ register-parts (stationAt c d t a words) (d .place .clock) id class))) (h .1)
+
+pub sample-ends :
+    (bytes ls : List ℕ) (c : StationConfig) (d : Desk) (t : PeerRttTracker) (a : BudgetAllocator) (words pool : List ℕ) (peer bits next : ℕ) (rtt : Float) (x : TrackerLeft)
+    → Stands bytes d next (Rtt peer bits) → rtt ≡ ofBits binary32 bits → x ≡ sampledTracker (d .ledger) (c .controller) t (d .place .clock) peer rtt
+    → endAt bytes c (written ls (d .place .at) (plainLine d (x .answer))) (deskOf (placeOf next (ended (length ls) (d .place .at) (length (plainLine d (x .answer)))) (d .place .clock)) (x .ledger) (d .core) (d .roster)) (x .tracker) a words pool
+    ≡ endAt bytes c ls d t a words pool
+unfolding stops played
+sample-ends bytes ls c d t a words pool peer bits next rtt x h er e =
+    said-ending bytes ls (d .place .at) (playerAt c d t a words pool) (d .place .word) (Rtt peer bits) _ _ next (h .0) refl
+    (ap (λ (r : Float). plain (playerAt c d t a words pool) (d .place .word) (rttStation (stationAt c d t a words) (d .place .clock) peer r)) (sym er)
+    ∙ ap (plain (playerAt c d t a words pool) (d .place .word))
+    (sym (ap (trackerIn (stationAt c d t a words)) e ∙ rtt-parts (stationAt c d t a words) (d .place .clock) peer rtt))) (h .1)
+
+-- the same with another answer and telling
+abbrev leftWith : CoreLeft → ℕ → Bool → CoreLeft
+leftWith x answer told = record { answer = answer; told = told; ledger = x .ledger; core = x .core }
+
+-- new budgets, with their line
+told-ends :
+    (bytes ls : List ℕ) (c : StationConfig) (d : Desk) (t : PeerRttTracker) (a : BudgetAllocator) (words pool : List ℕ) (item : Item) (next rate : ℕ) (x : StationAnswer) (left : CoreLeft)
+    → Stands bytes d next item → stops item ≡ false
+    → played bytes (playerAt c d t a words pool) (d .place .word) item ≡ rated (playerAt c d t a words pool) (d .place .word) x
+    → sharedBy (stationAt c d t a words) left (d .place .clock) rate ≡ x → left .answer ≡ 0 → left .told ≡ true
+    → endAt bytes c (written ls (d .place .at) (updatesLine d (sharedFor c d a rate)))
+    (toldDesk d next left (sharedFor c d a rate) (ended (length ls) (d .place .at) (length (updatesLine d (sharedFor c d a rate)))) .desk) t (sharedFor c d a rate .allocator) words pool
+    ≡ endAt bytes c ls d t a words pool
+unfolding rateTold sharedBy
+told-ends bytes ls c d t a words pool item next rate x left h es ep ex ea et =
+    said-ending bytes ls (d .place .at) (playerAt c d t a words pool) (d .place .word) item
+    (lineOf (d .place .word) 0 (updates (writersOf (sharedFor c d a rate .allocator .table)))) _ next (h .0) es
+    (ep ∙ (ap (rated (playerAt c d t a words pool) (d .place .word)) (sym ex)
+    ∙ ap (λ (y : CoreLeft). rated (playerAt c d t a words pool) (d .place .word) (sharedBy (stationAt c d t a words) y (d .place .clock) rate)) (ap₂ (leftWith left) ea et))) (h .1)
+
+abbrev pub sharedWith : Desk → BudgetAllocator → Shared
+sharedWith d a = record { desk = d; allocator = a }
+
+-- a rate shared out, or not
+share-ends :
+    (bytes ls : List ℕ) (c : StationConfig) (d : Desk) (t : PeerRttTracker) (a : BudgetAllocator) (words pool : List ℕ) (item : Item) (next rate : ℕ) (x : StationAnswer) (left : CoreLeft)
+    → Stands bytes d next item → stops item ≡ false
+    → played bytes (playerAt c d t a words pool) (d .place .word) item ≡ rated (playerAt c d t a words pool) (d .place .word) x
+    → sharedBy (stationAt c d t a words) left (d .place .clock) rate ≡ x → (left .told ≡ true → left .answer ≡ 0)
+    → endAt bytes c (sharedLines c d a left rate ls) (sharedDesk c d next a left rate ls .desk) t (sharedDesk c d next a left rate ls .allocator) words pool
+    ≡ endAt bytes c ls d t a words pool
+unfolding sharedLines sharedDesk
+share-ends bytes ls c d t a words pool item next rate x left h es ep ex ea = go (left .told) refl
+  where
+    go :
+        (b : Bool) → left .told ≡ b
+        → endAt bytes c (sharedLines c d a left rate ls) (sharedDesk c d next a left rate ls .desk) t (sharedDesk c d next a left rate ls .allocator) words pool ≡ endAt bytes c ls d t a words pool
+    go false e = rw e (untold-ends bytes ls c d t a words pool item next rate x left h es ep ex e)
+    go true e = rw e (told-ends bytes ls c d t a words pool item next rate x left h es ep ex (ea e) e)
+
+-- a rate is shared out by an accepted call only
+pub told-accepted :
+    (a : ℕ) (l : Ledger) (k : ControllerCore) (time : ℕ) (told : Bool) (after : ControllerCore) → calledCore a l k time told after .told ≡ true → calledCore a l k time told after .answer ≡ 0
+unfolding calledCore
+told-accepted a l k time told after = go (eqb a 0)
+  where
+    go :
+        (b : Bool) → cond {A = CoreLeft} b (coreLeft 0 told (moved l time) after) (coreLeft a false l k) .told ≡ true
+        → cond {A = CoreLeft} b (coreLeft 0 told (moved l time) after) (coreLeft a false l k) .answer ≡ 0
+    go true e = refl
+    go false e = absurd (not-both e)
+
+tick-accepted :
+    (l : Ledger) (c : ControllerConfig) (k : ControllerCore) (inflated : Bool) (time : ℕ) → tickedCore l c k inflated time .told ≡ true → tickedCore l c k inflated time .answer ≡ 0
+unfolding tickedCore
+tick-accepted l c k inflated time =
+    told-accepted (answerOf (timedChecks l time)) l k time (coreTicked k c time inflated .changed) (coreTicked k c time inflated .core)
+
+rate-accepted :
+    (l : Ledger) (c : ControllerConfig) (k : ControllerCore) (time rate : ℕ) → ratedCore l c k time rate .told ≡ true → ratedCore l c k time rate .answer ≡ 0
+unfolding ratedCore
+rate-accepted l c k time rate = told-accepted (answerOf (rateChecks l time rate)) l k time true (coreSet k c time rate)
+
+pub tick-all-ends :
+    (bytes ls : List ℕ) (c : StationConfig) (d : Desk) (t : PeerRttTracker) (a : BudgetAllocator) (words pool : List ℕ) (next rate : ℕ) (inflated : Bool) (left : CoreLeft)
+    → Stands bytes d next Tick → inflated ≡ anyInflated t → left ≡ tickedCore (d .ledger) (c .controller) (d .core) inflated (d .place .clock)
+    → rate ≡ rateIn left
+    → endAt bytes c (sharedLines c d a left rate ls) (sharedDesk c d next a left rate ls .desk) t (sharedDesk c d next a left rate ls .allocator) words pool
+    ≡ endAt bytes c ls d t a words pool
+unfolding stops played
+tick-all-ends bytes ls c d t a words pool next rate inflated left h ei e er =
+    share-ends bytes ls c d t a words pool Tick next rate _ left h refl refl
+    (tick-shell (stationAt c d t a words) (d .place .clock) rate left (d .core) t inflated refl refl ei e er)
+    (subst (λ (x : CoreLeft). x .told ≡ true → x .answer ≡ 0) (sym e) (tick-accepted (d .ledger) (c .controller) (d .core) inflated (d .place .clock)))
+
+pub set-rate-ends :
+    (bytes ls : List ℕ) (c : StationConfig) (d : Desk) (t : PeerRttTracker) (a : BudgetAllocator) (words pool : List ℕ) (next rate : ℕ) (left : CoreLeft)
+    → Stands bytes d next (SetRate rate) → left ≡ ratedCore (d .ledger) (c .controller) (d .core) (d .place .clock) rate
+    → endAt bytes c (sharedLines c d a left rate ls) (sharedDesk c d next a left rate ls .desk) t (sharedDesk c d next a left rate ls .allocator) words pool
+    ≡ endAt bytes c ls d t a words pool
+unfolding stops played
+set-rate-ends bytes ls c d t a words pool next rate left h e =
+    share-ends bytes ls c d t a words pool (SetRate rate) next rate _ left h refl refl
+    (ap (λ (x : CoreLeft). sharedBy (stationAt c d t a words) x (d .place .clock) rate) e ∙ rated-parts (stationAt c d t a words) (d .place .clock) rate)
+    (subst (λ (x : CoreLeft). x .told ≡ true → x .answer ≡ 0) (sym e) (rate-accepted (d .ledger) (c .controller) (d .core) (d .place .clock) rate))
+
+-- ---- where the tape stops
+
+stays : (m at : ℕ) → ended m at 0 ≡ at
+unfolding ended
+stays m at = omega arith
+
+pub end-ends : (bytes ls : List ℕ) (at : ℕ) (p : Player) (k : ℕ) → itemAt bytes k ≡ End → endingOf bytes ls at p k ≡ endedWith ls at
+unfolding endingOf linesOf textOf written
+end-ends bytes ls at p k e = rw (items-end bytes k e .1) (ap (endedWith ls) (stays (length ls) at))
+
+pub broken-ends :
+    (bytes ls : List ℕ) (at : ℕ) (p : Player) (k : ℕ) → itemAt bytes k ≡ Broken
+    → endingOf bytes ls at p k ≡ endedWith (written ls at (lineText k 5 (fieldsText Nothing))) (ended (length ls) at (length (lineText k 5 (fieldsText Nothing))))
+unfolding endingOf linesOf textOf played
+broken-ends bytes ls at p k e = rw (items-broken bytes k e, append-nil (lineText k 5 (fieldsText Nothing)))
+
+-- ---- which items are which, by the tag of the last arm
+
+abbrev pub slowTags : List ℕ
+slowTags = 0 ∷ 1 ∷ 3 ∷ 7 ∷ 11 ∷ []
+
+pub slow-item : (i : Item) → OneOf slowTags (tagOf the-type i) → isFast i ≡ false
+slow-item End h = refl
+slow-item Broken h = refl
+slow-item (Advance v) h = absurd (miss slowTags 2 tt h)
+slow-item (Register c id) h = refl
+slow-item Eagain h = absurd (miss slowTags 4 tt h)
+slow-item (Tos tos) h = absurd (miss slowTags 5 tt h)
+slow-item (Nacks count) h = absurd (miss slowTags 6 tt h)
+slow-item (Rtt peer bits) h = refl
+slow-item Tick h = absurd (miss slowTags 8 tt h)
+slow-item (HandIn i c n) h = absurd (miss slowTags 9 tt h)
+slow-item (Send i) h = absurd (miss slowTags 10 tt h)
+slow-item (SetRate rate) h = refl
+
+abbrev pub otherTags : List ℕ
+otherTags = 0 ∷ 1 ∷ 2 ∷ 4 ∷ 5 ∷ 6 ∷ 9 ∷ 10 ∷ []
+
+pub other-item : (i : Item) → OneOf otherTags (tagOf the-type i) → touchesTable i ≡ false
+other-item End h = refl
+other-item Broken h = refl
+other-item (Advance v) h = refl
+other-item (Register c id) h = absurd (miss otherTags 3 tt h)
+other-item Eagain h = refl
+other-item (Tos tos) h = refl
+other-item (Nacks count) h = refl
+other-item (Rtt peer bits) h = absurd (miss otherTags 7 tt h)
+other-item Tick h = absurd (miss otherTags 8 tt h)
+other-item (HandIn i c n) h = refl
+other-item (Send i) h = refl
+other-item (SetRate rate) h = absurd (miss otherTags 11 tt h)
+
+abbrev pub goingTags : List ℕ
+goingTags = 2 ∷ 3 ∷ 4 ∷ 5 ∷ 6 ∷ 7 ∷ 8 ∷ 9 ∷ 10 ∷ 11 ∷ []
+
+pub going-item : (i : Item) → OneOf goingTags (tagOf the-type i) → false ≡ stops i
+unfolding stops
+going-item End h = absurd (miss goingTags 0 tt h)
+going-item Broken h = absurd (miss goingTags 1 tt h)
+going-item (Advance v) h = refl
+going-item (Register c id) h = refl
+going-item Eagain h = refl
+going-item (Tos tos) h = refl
+going-item (Nacks count) h = refl
+going-item (Rtt peer bits) h = refl
+going-item Tick h = refl
+going-item (HandIn i c n) h = refl
+going-item (Send i) h = refl
+going-item (SetRate rate) h = refl
+
+abbrev pub soundTags : List ℕ
+soundTags = 0 ∷ 2 ∷ 3 ∷ 4 ∷ 5 ∷ 6 ∷ 7 ∷ 8 ∷ 9 ∷ 10 ∷ 11 ∷ []
+
+-- of the items that stop the tape, all but a broken one are its end
+pub end-item : (i : Item) → OneOf soundTags (tagOf the-type i) → stops i ≡ true → i ≡ End
+unfolding stops
+end-item End h e = refl
+end-item Broken h e = absurd (miss soundTags 1 tt h)
+end-item (Advance v) h e = absurd (not-both e)
+end-item (Register c id) h e = absurd (not-both e)
+end-item Eagain h e = absurd (not-both e)
+end-item (Tos tos) h e = absurd (not-both e)
+end-item (Nacks count) h e = absurd (not-both e)
+end-item (Rtt peer bits) h e = absurd (not-both e)
+end-item Tick h e = absurd (not-both e)
+end-item (HandIn i c n) h e = absurd (not-both e)
+end-item (Send i) h e = absurd (not-both e)
+end-item (SetRate rate) h e = absurd (not-both e)
+
+-- an item that neither stops the tape nor leaves the tables alone touches one
+pub table-item : (i : Item) → stops i ≡ false → isFast i ≡ false → touchesTable i ≡ true
+unfolding stops
+table-item End e f = absurd (not-both (sym e))
+table-item Broken e f = absurd (not-both (sym e))
+table-item (Advance v) e f = absurd (not-both (sym f))
+table-item (Register c id) e f = refl
+table-item Eagain e f = absurd (not-both (sym f))
+table-item (Tos tos) e f = absurd (not-both (sym f))
+table-item (Nacks count) e f = absurd (not-both (sym f))
+table-item (Rtt peer bits) e f = refl
+table-item Tick e f = refl
+table-item (HandIn i c n) e f = absurd (not-both (sym f))
+table-item (Send i) e f = absurd (not-both (sym f))
+table-item (SetRate rate) e f = refl
+
+-- what was found at the desk's word
+pub stands-at :
+    (bytes : List ℕ) (d : Desk) (next : ℕ) (found item : Item) → found ≡ itemAt bytes (d .place .word) → next ≡ wordAfter bytes (d .place .word) found → found ≡ item
+    → Stands bytes d next item
+stands-at bytes d next found item e en ei = (sym e ∙ ei, en ∙ ap (wordAfter bytes (d .place .word)) ei)
+
+-- ---- further on the tape
+
+pub further-on : (bytes : List ℕ) (d d′ : Desk) (item : Item) (next : ℕ) → Stands bytes d next item → stops item ≡ false → d′ .place .word ≡ next → Further bytes d d′
+further-on bytes d d′ item next h es ew =
+    let going : stops (itemAt bytes (d .place .word)) ≡ false = ap stops (h .0) ∙ es in
+    let to : d′ .place .word ≡ d .place .word + takes (itemAt bytes (d .place .word)) =
+    ew ∙ (h .1 ∙ (ap (wordAfter bytes (d .place .word)) (sym (h .0)) ∙ after-whole bytes (d .place .word) going)) in
+    (omega (arith, to, takes-least (itemAt bytes (d .place .word))), omega (arith, to, item-inside bytes (d .place .word) going))
+
+pub moved-on :
+    (bytes : List ℕ) (d d′ : Desk) (item : Item) (next : ℕ) → Stands bytes d next item → stops item ≡ false → d′ .place .word ≡ next
+    → Onward bytes d (record { desk = d′; moved = true })
+moved-on bytes d d′ item next h es ew =
+    record {
+      further = λ e. further-on bytes d d′ item next h es ew .0;
+      inside = λ e. further-on bytes d d′ item next h es ew .1;
+      same = λ e. absurd (not-both (sym e));
+      halted = λ e. absurd (not-both (sym e));
+    }
+
+-- ---- room for the lines
+
+pub room-for : (room words : ℕ) → 24 ≤ room → ltb ((room - 24) / 192) words ≡ ltb room (24 + 192 * words)
+room-for room words h = go (decLe (24 + 192 * words) room)
+  where
+    go : Dec (24 + 192 * words ≤ room) → ltb ((room - 24) / 192) words ≡ ltb room (24 + 192 * words)
+    go (yes l) = le-ltb ((room - 24) / 192) words (omega (arith, l)) ∙ sym (le-ltb room (24 + 192 * words) l)
+    go (no l) = lt-ltb ((room - 24) / 192) words (omega (arith, l)) ∙ sym (lt-ltb room (24 + 192 * words) (omega (arith, l)))
+
+pub shared-word : (c : StationConfig) (d : Desk) (next : ℕ) (a : BudgetAllocator) (x : CoreLeft) (rate : ℕ) (ls : List ℕ) → sharedDesk c d next a x rate ls .desk .place .word ≡ next
+unfolding sharedDesk
+shared-word c d next a x rate ls = go (x .told)
+  where
+    go :
+        (b : Bool)
+        → cond {A = Shared} b
+        (toldDesk d next x (sharedFor c d a rate) (ended (length ls) (d .place .at) (length (updatesLine d (sharedFor c d a rate)))))
+        (record { desk = saidDesk d next x (ended (length ls) (d .place .at) (length (unchangedLine d x))); allocator = a }) .desk .place .word
+        ≡ next
+    go true = refl
+    go false = refl
+
+-- ---- with what the callees gave
+
+pub hand-in-shell :
+    (bytes ls : List ℕ) (c : StationConfig) (d : Desk) (t : PeerRttTracker) (a : BudgetAllocator) (words pool : List ℕ) (i : ℕ) (class : Priority) (n next : ℕ)
+    (h : Handed) (words′ pool′ ls′ : List ℕ) (at′ : ℕ) (r : Roster) (sample : List ℕ) (key : InstanceKey) (k : PacerCore) (count : ℕ) (settings : PacerConfig)
+    → Stands bytes d next (HandIn i class n)
+    → settings ≡ c .pacer → count ≡ d .roster .count → k ≡ writerAt (d .roster) i .pacer → key ≡ keyAt bytes (d .place .word) class → sample ≡ bodyAt bytes (d .place .word) class n
+    → h ≡ pacer.handedBy (answerOf (handInChecksOn (d .ledger) settings count (length pool) (d .place .clock) i (length sample))) (d .ledger) k words (d .place .clock) i class key
+    → words′ ≡ pacer.wordsHandedBy (answerOf (handInChecksOn (d .ledger) settings count (length pool) (d .place .clock) i (length sample))) k words i class key (length sample)
+    → pool′ ≡ pacer.poolHandedBy (answerOf (handInChecksOn (d .ledger) settings count (length pool) (d .place .clock) i (length sample))) k words (settings .limits) i class key sample pool
+    → ls′ ≡ written ls (d .place .at) (plainLine d (h .answer)) → at′ ≡ ended (length ls) (d .place .at) (length (plainLine d (h .answer)))
+    → r ≡ withPacer (d .roster) i (h .core)
+    → endAt bytes c ls′ (deskOf (placeOf next at′ (d .place .clock)) (h .ledger) (d .core) r) t a words′ pool′ ≡ endAt bytes c ls d t a words pool
+hand-in-shell bytes ls c d t a words pool i class n next h words′ pool′ ls′ at′ r sample key k count settings st es ec ek ey eb eh ew ep el ea er =
+    rw (er, ea, el, ep, ew, eh, eb, ey, ek, ec, es) (hand-in-ends bytes ls c d t a words pool i class n _ next st refl)
+
+pub tick-on :
+    (bytes : List ℕ) (d : Desk) (next : ℕ) (r : Moved) → Stands bytes d next Tick → (r .moved ≡ true → r .desk .place .word ≡ next) → (r .moved ≡ false → r .desk ≡ d) → Onward bytes d r
+unfolding stops
+tick-on bytes d next r h further same =
+    record {
+      further = λ e. further-on bytes d (r .desk) Tick next h refl (further e) .0;
+      inside = λ e. further-on bytes d (r .desk) Tick next h refl (further e) .1;
+      same = λ e. ap (λ (x : Desk). x .place .word) (same e);
+      halted = λ e. ap (λ (x : Desk). isFast (itemAt bytes (x .place .word))) (same e) ∙ ap isFast (h .0);
+    }
+
+pub halt-on : (bytes : List ℕ) (d : Desk) → isFast (itemAt bytes (d .place .word)) ≡ false → Onward bytes d (record { desk = d; moved = false })
+halt-on bytes d h = record { further = λ e. absurd (not-both e); inside = λ e. absurd (not-both e); same = λ e. refl; halted = λ e. h }
+
+-- a run's first desk
+pub start-shell :
+    (bytes ls : List ℕ) (c : StationConfig) (at : ℕ) (words pool : List ℕ) (t : PeerRttTracker) (a : BudgetAllocator) (l : Ledger) (settings : ControllerConfig) (k : ControllerCore) (r : Roster)
+    → t ≡ newTracker (ofBits binary32 0x42c8_0000) → a ≡ newAllocator → l ≡ opened 0 → settings ≡ c .controller → k ≡ newCore settings 0 → r ≡ newRoster
+    → endAt bytes c ls (deskOf (placeOf 0 at 0) l k r) t a words pool ≡ endingOf bytes ls at (playerOf (newStationWith c words) 0 pool) 0
+unfolding newController
+start-shell bytes ls c at words pool t a l settings k r et ea el es ek er = rw (et, ea, el, ek, es, er)
+
+-- the whole run, header and all
+run-ends :
+    (bytes ls : List ℕ) → endingOf bytes (written ls 0 header) (ended (length ls) 0 (length header)) newPlayer 0
+    ≡ endedWith (written ls 0 (tapeText bytes)) (ended (length ls) 0 (length (tapeText bytes)))
+unfolding endingOf tapeText
+run-ends bytes ls =
+    rw (items-first bytes)
+    (ap₂ endedWith (written-written ls 0 header (restOf bytes newPlayer 0))
+    (ap (λ (m : ℕ). ended m (ended (length ls) 0 (length header)) (length (restOf bytes newPlayer 0))) (length-written ls 0 header)
+    ∙ (ended-ended (length ls) 0 (length header) (length (restOf bytes newPlayer 0)) ∙ ap (ended (length ls) 0) (sym (length-append header (restOf bytes newPlayer 0))))))
+
+pub run-shell :
+    (bytes ls ls′ : List ℕ) (end : ℕ) → ltb (length ls) (roomFor (length bytes)) ≡ false → length (tapeText bytes) ≤ roomFor (length bytes)
+    → endedWith ls′ end ≡ endingOf bytes (written ls 0 header) (ended (length ls) 0 (length header)) newPlayer 0
+    → (runOf 0 end ≡ ranTape bytes (length ls)) × (ls′ ≡ linesLeft bytes ls)
+unfolding ranTape linesLeft
+run-shell bytes ls ls′ end room bound e =
+    let all : endedWith ls′ end ≡ endedWith (written ls 0 (tapeText bytes)) (ended (length ls) 0 (length (tapeText bytes))) = e ∙ run-ends bytes ls in
+    let none : 0 + length (tapeText bytes) ≡ length (tapeText bytes) = omega arith in
+    let fit : 0 + length (tapeText bytes) ≤ length ls = omega (arith, bound, ltb-false (length ls) (roomFor (length bytes)) room) in
+    rw room (
+      ap (runOf 0) (ap (λ (x : Ending). x .end) all ∙ (ended-fits (length ls) 0 (length (tapeText bytes)) fit ∙ none)),
+      ap (λ (x : Ending). x .lines) all ∙ (fits ls 0 (tapeText bytes) fit ∙ ap (λ (n : ℕ). tapeText bytes ++ drop n ls) none),
+    )
+
+pub first-shell :
+    (bytes ls ls₁ : List ℕ) (start : ℕ) (settings : CongestionConfig) (c : StationConfig) (x : Ending)
+    → ls₁ ≡ written ls 0 header → start ≡ ended (length ls) 0 (length header) → settings ≡ tapeSettings → c ≡ stationConfigOf settings
+    → x ≡ endingOf bytes ls₁ start (playerOf (newStationWith c (replicate 7220 0)) 0 (replicate 47104 0)) 0
+    → x ≡ endingOf bytes (written ls 0 header) (ended (length ls) 0 (length header)) newPlayer 0
+first-shell bytes ls ls₁ start settings c x el es et ec e =
+    e ∙ (ap₂ (λ (l : List ℕ) (n : ℕ). endingOf bytes l n (playerOf (newStationWith c (replicate 7220 0)) 0 (replicate 47104 0)) 0) el es
+    ∙ ap (λ (c : StationConfig). endingOf bytes (written ls 0 header) (ended (length ls) 0 (length header)) (playerOf (newStationWith c (replicate 7220 0)) 0 (replicate 47104 0)) 0) (ec ∙ ap stationConfigOf et))

@@ -1,0 +1,4 @@
+pub mod Item
+pub mod Text
+pub mod Run
+pub mod Desk
