@@ -10,11 +10,10 @@ use lib.Ieee.{Float}
 use lib.ListN.{getD, set, length}
 use Rattle.config.proofs.Refusals.{chainOf, Numbered, none-where-accepted}
 use Rattle.config.specs.Ledger.{moved, timedChecks, rateChecks}
-use Rattle.config.specs.Refusal.{Check, when, answerOf, writerUnknown}
+use Rattle.config.specs.Refusal.{Check, when, answerOf}
 use Rattle.config.specs.declared.config.Priority.{Priority}
 use Rattle.config.specs.declared.ledger.Ledger.{Ledger}
 use Rattle.pacing.specs.Pool.{isShort}
-use Rattle.pacing.specs.Ring.{fateNumber}
 use Rattle.pacing.specs.WriterPacer.{handLeaves, handedBy, wordsHandedBy, handInWritten, poolHandedBy, sentBy, wordsSentBy, sendNoted, sendLeaves, rateSet}
 use Rattle.pacing.specs.WriterPacerAlone as alone
 use Rattle.pacing.specs.declared.coalescing.InstanceKey.{InstanceKey}
@@ -22,13 +21,12 @@ use Rattle.pacing.specs.declared.writer_pacer.Attempt.{Attempt}
 use Rattle.pacing.specs.declared.writer_pacer.Enqueued.{Enqueued}
 use Rattle.pacing.specs.declared.writer_pacer.Handed.{Handed}
 use Rattle.pacing.specs.declared.writer_pacer.PacerConfig.{PacerConfig}
-use Rattle.pacing.specs.declared.writer_pacer.PacerCore.{PacerCore}
 use Rattle.pacing.specs.declared.writer_pacer.SendAction.the-variants.{Empty}
 use Rattle.pacing.specs.declared.writer_pacer.SendTried.{SendTried}
 use Rattle.signals.specs.declared.rtt_estimator.PeerRttTracker.{PeerRttTracker}
 use Rattle.signals.specs.RttEstimator.{trackerUpdated, anyInflated}
 use Rattle.control.specs.BudgetAllocator.{budgetOf, knownBudget, rowAt, placeOf, isKnown, one, registered, reallocated}
-use Rattle.control.specs.Controller.{controllerOf, coreTicked, coreSet, controllerTicked, controllerSet, registeredIn, sampled, fullForPeer, tickedWith}
+use Rattle.control.specs.Controller.{controllerOf, coreTicked, coreSet, controllerTicked, controllerSet, registeredIn, sampled, fullForPeer}
 use Rattle.control.specs.ControllerAlone.{withCore}
 use Rattle.control.specs.declared.budget_allocator.Budget.{Budget}
 use Rattle.control.specs.declared.budget_allocator.BudgetAllocator.{BudgetAllocator}

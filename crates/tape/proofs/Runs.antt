@@ -1,5 +1,5 @@
 -- One item of a run at a time: its line, and the run's end from the next item on. Assumes nothing.
-use Prim.Native.Nat.{ℕ, _+_, _-_, _*_, _/_, _≤_, _<_, min, max}
+use Prim.Native.Nat.{ℕ, _+_, _-_, _*_, _/_, _≤_, min, max}
 use mathlib.Core.Bool.{Bool, true, false, not, cond}
 use mathlib.Core.List.{List, [], _∷_, _++_, append-assoc, append-nil}
 use mathlib.Core.Path.{_≡_, refl, ap, ap₂, sym, subst, _∙_}
@@ -8,9 +8,9 @@ use native.Mathlib.Omega.{arith}
 use denote.Enum.Declared.{tagOf}
 use types.Run.{OneOf, miss}
 use borrow.Author.Tests.{le-leb, le-ltb, lt-ltb, ltb-false}
-use lib.Dec.{leb, ltb, eqb}
+use lib.Dec.{ltb, eqb}
 use lib.Ieee.{Float, binary32, ofBits}
-use lib.ListN.{length, take, drop, replicate, length-append}
+use lib.ListN.{length, drop, replicate, length-append}
 use Rattle.config.specs.Ledger.{opened, moved, timedChecks, rateChecks}
 use Rattle.config.specs.Refusal.{answerOf}
 use Rattle.config.specs.declared.config.CongestionConfig.{CongestionConfig}
@@ -30,18 +30,16 @@ use Rattle.control.specs.declared.controller.ControllerConfig.{ControllerConfig
 use Rattle.control.specs.declared.controller.ControllerCore.{ControllerCore}
 use Rattle.control.specs.declared.budget_allocator.BudgetAllocator.{BudgetAllocator}
 use Rattle.station.specs.Parts.{handInChecksOn, sendChecksOn, coreLeft, calledCore, ratedCore, coreLeftBy, eagainCore, nacksCore, tosCore, tickedCore, sharedBy, registeredParts, sampledTracker}
-use Rattle.station.specs.Station.{stationConfigOf, stationOf, newRoster, writerAt, withPacer, handedStation, poolHanded, handInAnswer, sendAnswer, sentStation, eagainStation, nacksStation, tosStation, rttStation, tickedStation}
+use Rattle.station.specs.Station.{stationConfigOf, newRoster, writerAt, withPacer, rttStation}
 use Rattle.station.specs.declared.parts.CoreLeft.{CoreLeft}
 use Rattle.station.specs.declared.roster.Roster.{Roster}
 use Rattle.station.specs.declared.parts.RosterLeft.{RosterLeft}
 use Rattle.station.specs.declared.parts.TrackerLeft.{TrackerLeft}
-use Rattle.station.specs.declared.station.Station.{Station}
 use Rattle.station.specs.declared.station.StationAnswer.{StationAnswer}
 use Rattle.station.specs.declared.station.StationConfig.{StationConfig}
-use Rattle.station.specs.declared.station.StationSent.{StationSent}
 use Rattle.station.proofs.Shells.{handed-parts, pool-parts, sent-parts, eagain-parts, nacks-parts, tos-parts, untold-shell, tick-shell, rated-parts, register-parts, rtt-parts, rosterIn, trackerIn, rateIn}
 use Rattle.tape.specs.Desk.{placeOf, deskOf, stationAt, playerAt, isFast, touchesTable, Onward, Further, endAt, Stands, saidDesk, sharedFor, updatesLine, unchangedLine, toldDesk, sharedDesk, sharedLines, endedWith, newStationWith}
-use Rattle.tape.specs.Item.{wordsOf, wordsFrom, wholeWords, itemAt, takes, stops, wordAfter, itemsFrom, Placed, placed, keyAt, bodyAt}
+use Rattle.tape.specs.Item.{wordsFrom, itemAt, takes, stops, wordAfter, keyAt, bodyAt}
 use Rattle.tape.specs.Run.{Player, playerOf, Told, fields, updates, toldText, Line, lineOf, fieldsWhere, actionFields, rateTold, Step, silent, saying, called, plain, rated, sentBy, played, linesOf, textOf, restOf, Ending, endingOf, advanced, tapeSettings, newPlayer, tapeText, roomFor, runOf, ranTape, linesLeft}
 use Rattle.tape.specs.Text.{written, ended, header, fieldsText, lineText}
 use Rattle.tape.specs.declared.item.Item.{Item}

@@ -1,7 +1,7 @@
 -- The run of a tape (document 01, "The tape"): what each item does to a station, the clock and the pool, and which line it prints.
 -- Definitions only.
 use Prim.Native.Nat.{ℕ, _+_, _-_, _*_, _^_, min}
-use mathlib.Core.Bool.{Bool, true, false, cond}
+use mathlib.Core.Bool.{true, cond}
 use mathlib.Core.List.{List, [], _∷_, _++_}
 use lib.Dec.{ltb, eqb}
 use lib.Ieee.{binary32, ofBits}

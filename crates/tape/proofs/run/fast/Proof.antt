@@ -1,5 +1,4 @@
 use Rattle.tape.proofs.Runs.{stands-at, moved-on, tick-on, halt-on, slow-item, advance-ends}
-use Rattle.tape.specs.declared.item.Item.the-variants.{Advance}
 use Rattle.tape.specs.Item.{stops}
 use Rattle.tape.specs.Desk.{isFast}
 use mathlib.Core.Path.{refl, ap, sym, _∙_}
