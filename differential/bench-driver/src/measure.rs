@@ -1,4 +1,4 @@
-//! Times lists on the three sides, in turn, and takes the best of several runs.
+//! Times lists on their sides, in turn, and takes the best of several runs.
 
 use std::fmt;
 use std::hint::black_box;
@@ -112,6 +112,34 @@ impl<L> Row<L> {
         let whole = self.whole.map_or("none".to_string(), |best| format!("{:.1}", per_call(best)));
         let (name, ratio) = (&self.name, parts / rust);
         format!("| {name:<35} | {parts:>6.1} | {whole:>8} | {rust:>6.1} | {ratio:>12.2} |")
+    }
+}
+
+/// The best runs of two sides that take turns.
+pub struct Turns {
+    first: Duration,
+    second: Duration,
+}
+
+impl Default for Turns {
+    fn default() -> Self {
+        Self { first: Duration::MAX, second: Duration::MAX }
+    }
+}
+
+impl Turns {
+    /// One round.
+    pub fn round<T>(&mut self, mut first: impl FnMut() -> T, mut second: impl FnMut() -> T) {
+        for _ in 0..RUNS {
+            self.first = self.first.min(timed(&mut first).0);
+            self.second = self.second.min(timed(&mut second).0);
+        }
+    }
+
+    /// Of each side.
+    pub fn nanoseconds(&self) -> (f64, f64) {
+        let of = |best: Duration| best.as_nanos() as f64;
+        (of(self.first), of(self.second))
     }
 }
 
