@@ -28,13 +28,6 @@ const RATES: [u64; 14] = [
     RATE_LIMIT - 1,
     RATE_LIMIT,
 ];
-const REFUSED_RATES: [u64; 4] = [
-    RATE_LIMIT + 1,
-    1 << 31,
-    u32::MAX as u64,
-    (1 << 32) + RATE_LIMIT + 1,
-];
-
 /// Weights that are accepted; those below 0.1 count as 0.1.
 fn weights() -> [u64; 15] {
     [

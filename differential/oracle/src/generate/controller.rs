@@ -26,13 +26,6 @@ const P2: u64 = 2;
 const ECT0: u64 = 2;
 const CE: u64 = 3;
 
-const REFUSED_RATES: [u64; 4] = [
-    RATE_LIMIT + 1,
-    1 << 31,
-    u32::MAX as u64,
-    (1 << 32) + RATE_LIMIT + 1,
-];
-
 pub fn boundary(script: &mut Script) {
     before_any_new(script);
     eagain(script);

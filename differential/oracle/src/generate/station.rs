@@ -26,13 +26,6 @@ const WRITERS: u64 = 4;
 /// A pacer that no station has.
 const NO_PACER: u64 = 9;
 
-const REFUSED_RATES: [u64; 4] = [
-    RATE_LIMIT + 1,
-    1 << 31,
-    u32::MAX as u64,
-    (1 << 32) + RATE_LIMIT + 1,
-];
-
 pub fn boundary(script: &mut Script) {
     before_any_new(script);
     eagain(script);

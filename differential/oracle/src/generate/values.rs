@@ -3,6 +3,13 @@
 use crate::random::Random;
 
 pub const RATE_LIMIT: u64 = 1_000_000_000;
+/// Rates beyond their range; the last has more than 32 bits, of which the script takes the low ones.
+pub const REFUSED_RATES: [u64; 4] = [
+    RATE_LIMIT + 1,
+    1 << 31,
+    u32::MAX as u64,
+    (1 << 32) + RATE_LIMIT + 1,
+];
 pub const TIME_LIMIT: u64 = 1 << 62;
 pub const CALL_LIMIT: u64 = 1 << 40;
 
