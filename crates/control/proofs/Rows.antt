@@ -1,10 +1,15 @@
--- Laws of rows: a row is read, one is put in or taken out, and all are mapped, place by place. Assumes nothing.
+-- Laws of rows: a row is read, one is put in or taken out, all are mapped, place by place, and a writer's is found. Assumes nothing.
 use Prim.Native.Nat.{ℕ, zero, suc, _≤_, _<_}
+use mathlib.Core.Bool.{true, false}
 use mathlib.Core.List.{List, [], _∷_, _++_, map}
 use mathlib.Core.Path.{_≡_, refl, ap}
 use native.Mathlib.Omega.{arith}
+use borrow.Author.Tests.{le-ltb, lt-ltb}
+use lib.Dec.{eqb}
 use lib.ListN.{length, take, drop, getD, set}
-use Rattle.control.specs.BudgetAllocator.{lacking}
+use Rattle.numeric.proofs.Search.{first-none, first-is}
+use Rattle.control.specs.BudgetAllocator.{lacking, takenOf, rowAt, placeOf, isKnown, knownBudget, budgetOf}
+use Rattle.control.specs.declared.budget_allocator.WriterTable.{WriterTable}
 
 -- of the first n rows, from row k on: row k, and those after it
 pub rows-from : {A : Type 0} (l : List A) (n k : ℕ) (d : A) → k < n → n ≤ length l → drop k (take n l) ≡ getD l k d ∷ drop (suc k) (take n l)
@@ -57,3 +62,26 @@ pub mapped-step : {A : Type 0} (f : A → A) (l : List A) (k : ℕ) (d : A) → 
 mapped-step f [] k d lt = absurd (omega arith)
 mapped-step f (x ∷ xs) zero d lt = refl
 mapped-step f (x ∷ xs) (suc k) d lt = ap (λ (r : List _). f x ∷ r) (mapped-step f xs k d (omega arith))
+
+-- ---- the row of a writer
+
+-- the first with its id
+pub place-is :
+    (t : WriterTable) (id k : ℕ) → k < takenOf (t .count) → ((j : ℕ) → j < k → eqb (rowAt (t .rows) j .id) id ≡ false) → eqb (rowAt (t .rows) k .id) id ≡ true
+    → placeOf t id ≡ k
+unfolding placeOf
+place-is t id k lt before here = first-is _ _ k lt before here
+
+-- or none
+pub place-none : (t : WriterTable) (id : ℕ) → ((j : ℕ) → j < takenOf (t .count) → eqb (rowAt (t .rows) j .id) id ≡ false) → placeOf t id ≡ takenOf (t .count)
+unfolding placeOf
+place-none t id none = first-none _ _ none
+
+pub budget-is :
+    (t : WriterTable) (id k : ℕ) → k < takenOf (t .count) → placeOf t id ≡ k → budgetOf t id ≡ knownBudget (rowAt (t .rows) k .«budget_bps»)
+unfolding budgetOf isKnown
+budget-is t id k lt e = rw (e, lt-ltb _ _ lt) refl
+
+pub budget-none : (t : WriterTable) (id : ℕ) → placeOf t id ≡ takenOf (t .count) → budgetOf t id ≡ record { known = false; bps = 0 }
+unfolding budgetOf isKnown
+budget-none t id e = rw (e, le-ltb (takenOf (t .count)) (takenOf (t .count)) (omega arith)) refl

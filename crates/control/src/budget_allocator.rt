@@ -251,22 +251,25 @@ impl WriterTable {
         self.rows
     }
 
-    // The budget of a writer, where it is there.
+    // The budget of a writer, where it is there. It searches for itself, since `place_of` would copy the table once more.
     pub fn budget_of(self, id: u64) -> Budget
         ensures { λ r. ⌜ r ≡ budgetOf self id ⌝ }
     {
-        let place = self.place_of(id);
-        if place < taken(self.count) {
-            let row = self.rows[place];
-            Budget {
-                known: true,
-                bps: row.budget_bps,
+        let n = taken(self.count);
+        let mut k: usize = 0;
+        while k < n {
+            let row = self.rows[k];
+            if row.id == id {
+                return Budget {
+                    known: true,
+                    bps: row.budget_bps,
+                };
             }
-        } else {
-            Budget {
-                known: false,
-                bps: 0,
-            }
+            k += 1;
+        }
+        Budget {
+            known: false,
+            bps: 0,
         }
     }
 

@@ -65,6 +65,10 @@ pub fn hash_bytes(bytes: &[u8]) -> u64
     while i < bytes.len() {
         hash = join(hash, bytes[i]);
         i += 1;
+        if i < bytes.len() {
+            hash = join_swapped(hash, bytes[i]);
+            i += 1;
+        }
     }
     hash
 }
@@ -74,6 +78,14 @@ fn join(hash: u64, byte: u8) -> u64
     ensures { λ r. ⌜ r ≡ joined hash byte ⌝ }
 {
     numeric::integer::wrapping_mul(hash ^ (byte as u64), FNV1A_PRIME)
+}
+
+// The same with the factors swapped: a compiler that sees one constant in the same place of every product splits the product in halves;
+// with both orders it is one instruction.
+fn join_swapped(hash: u64, byte: u8) -> u64
+    ensures { λ r. ⌜ r ≡ joined hash byte ⌝ }
+{
+    numeric::integer::wrapping_mul(FNV1A_PRIME, hash ^ (byte as u64))
 }
 
 // The words of a queue used alone: 128 entries of four, and its three counts.

@@ -117,6 +117,12 @@ pub struct PeerRttTracker {
     pub(crate) default_ms: f32,
 }
 
+// A tracker after a sample, and whether it was full for the peer, and so stays.
+pub struct Entered {
+    pub tracker: PeerRttTracker,
+    pub full: bool,
+}
+
 // How many places are taken: the count, held to the table's size.
 fn known(count: u16) -> usize
     ensures { λ r. ⌜ r ≡ knownOf count ⌝ }
@@ -160,24 +166,42 @@ impl PeerRttTracker {
     }
 
     // One sample more for a peer, which is entered where it is new; a full table takes no new peer.
-    pub fn update(mut self, time: u64, peer_id: u32, rtt_ms: f32) -> PeerRttTracker
+    pub fn update(self, time: u64, peer_id: u32, rtt_ms: f32) -> PeerRttTracker
         ensures { λ r. ⌜ r ≡ trackerUpdated self time «peer_id» «rtt_ms» ⌝ }
+    {
+        let entered = self.enter(time, peer_id, rtt_ms);
+        entered.tracker
+    }
+
+    // The same, and whether the table was full for the peer, with one search.
+    pub fn enter(mut self, time: u64, peer_id: u32, rtt_ms: f32) -> Entered
+        ensures { λ r. ⌜ r .tracker ≡ trackerUpdated self time «peer_id» «rtt_ms» ⌝ }
+        ensures { λ r. ⌜ r .full ≡ fullFor self «peer_id» ⌝ }
     {
         let n = known(self.count);
         let at = place_of(&self.ids, self.count, peer_id);
         if at < n {
             let peer = self.peers[at];
             self.peers[at] = peer.update(time, rtt_ms);
-            return self;
+            return Entered {
+                tracker: self,
+                full: false,
+            };
         }
         if n < MOST_PEERS {
             let peer = RttEstimator::new(self.default_ms);
             self.ids[n] = peer_id;
             self.peers[n] = peer.update(time, rtt_ms);
             self.count = n as u16 + 1;
-            return self;
+            return Entered {
+                tracker: self,
+                full: false,
+            };
         }
-        self
+        Entered {
+            tracker: self,
+            full: true,
+        }
     }
 
     // Whether a peer is not there and there is no room for it.

@@ -5,7 +5,7 @@ ghost use lib.ListN.{length};
 ghost use Rattle.config.specs.Refusal.{answerOf};
 ghost use Rattle.pacing.specs.WriterPacer.{handedBy, wordsHandedBy, poolHandedBy, sentBy, wordsSentBy};
 ghost use Rattle.station.specs.Station.{slotsNeeded};
-ghost use Rattle.station.specs.Parts.{pacerAfter, handInChecksOn, sendChecksOn, calledCore, eagainCore, nacksCore, tosCore, tickedCore, ratedCore, rttChecksOn, sampledTracker, registerChecksOn, registeredParts, sharedOut};
+ghost use Rattle.station.specs.Parts.{pacerAfter, handInChecksOn, sendChecksOn, calledCore, eagainCore, nacksCore, tosCore, tickedCore, ratedCore, sampledTracker, registerChecksOn, registeredParts, sharedOut};
 use crate::roster::Roster;
 use crate::station::StationConfig;
 use config::config::Priority;
@@ -269,31 +269,7 @@ pub fn share_out(
     }
 }
 
-// 4, 7, 17, 11, 14 or 0; with control off 14 is not looked at.
-fn check_rtt(
-    ledger: Ledger,
-    config: ControllerConfig,
-    tracker: PeerRttTracker,
-    time: u64,
-    peer_id: u32,
-    rtt_ms: f32,
-) -> u8
-    ensures { λ r. ⌜ r ≡ answerOf (rttChecksOn ledger config tracker time «peer_id» «rtt_ms») ⌝ }
-{
-    let answer = check_sample(ledger, time, rtt_ms);
-    if answer != 0 {
-        return answer;
-    }
-    if config.enabled {
-        if tracker.is_full_for(peer_id) {
-            return refusal::TABLE_FULL;
-        }
-        return refusal::ACCEPTED;
-    }
-    refusal::ACCEPTED
-}
-
-// With control off no peer is entered.
+// With control off no peer is entered, and 14 is not looked at.
 pub fn on_rtt_sample(
     ledger: Ledger,
     config: ControllerConfig,
@@ -304,7 +280,7 @@ pub fn on_rtt_sample(
 ) -> TrackerLeft
     ensures { λ r. ⌜ r ≡ sampledTracker ledger config tracker time «peer_id» «rtt_ms» ⌝ }
 {
-    let answer = check_rtt(ledger, config, tracker, time, peer_id, rtt_ms);
+    let answer = check_sample(ledger, time, rtt_ms);
     if answer != 0 {
         return TrackerLeft {
             answer,
@@ -313,10 +289,19 @@ pub fn on_rtt_sample(
         };
     }
     if config.enabled {
+        let entered = tracker.enter(time, peer_id, rtt_ms);
+        let after = entered.tracker;
+        if entered.full {
+            return TrackerLeft {
+                answer: refusal::TABLE_FULL,
+                ledger,
+                tracker: after,
+            };
+        }
         return TrackerLeft {
             answer: 0,
             ledger: ledger.moved(time),
-            tracker: tracker.update(time, peer_id, rtt_ms),
+            tracker: after,
         };
     }
     TrackerLeft {

@@ -1,5 +1,5 @@
 -- One item of a run at a time: its line, and the run's end from the next item on. Assumes nothing.
-use Prim.Native.Nat.{ℕ, _+_, _-_, _*_, _/_, _≤_, min, max}
+use Prim.Native.Nat.{ℕ, _+_, _-_, _*_, _/_, _<_, _≤_, min, max}
 use mathlib.Core.Bool.{Bool, true, false, not, cond}
 use mathlib.Core.List.{List, [], _∷_, _++_, append-assoc, append-nil}
 use mathlib.Core.Path.{_≡_, refl, ap, ap₂, sym, subst, _∙_}
@@ -30,7 +30,7 @@ use Rattle.control.specs.declared.controller.ControllerConfig.{ControllerConfig
 use Rattle.control.specs.declared.controller.ControllerCore.{ControllerCore}
 use Rattle.control.specs.declared.budget_allocator.BudgetAllocator.{BudgetAllocator}
 use Rattle.station.specs.Parts.{handInChecksOn, sendChecksOn, coreLeft, calledCore, ratedCore, coreLeftBy, eagainCore, nacksCore, tosCore, tickedCore, sharedBy, registeredParts, sampledTracker}
-use Rattle.station.specs.Station.{stationConfigOf, newRoster, writerAt, withPacer, rttStation}
+use Rattle.station.specs.Station.{stationConfigOf, newRoster, writerAt, withPacer, rttStation, ratedStation}
 use Rattle.station.specs.declared.parts.CoreLeft.{CoreLeft}
 use Rattle.station.specs.declared.roster.Roster.{Roster}
 use Rattle.station.specs.declared.parts.RosterLeft.{RosterLeft}
@@ -38,15 +38,12 @@ use Rattle.station.specs.declared.parts.TrackerLeft.{TrackerLeft}
 use Rattle.station.specs.declared.station.StationAnswer.{StationAnswer}
 use Rattle.station.specs.declared.station.StationConfig.{StationConfig}
 use Rattle.station.proofs.Shells.{handed-parts, pool-parts, sent-parts, eagain-parts, nacks-parts, tos-parts, untold-shell, tick-shell, rated-parts, register-parts, rtt-parts, rosterIn, trackerIn, rateIn}
-use Rattle.tape.specs.Desk.{placeOf, deskOf, stationAt, playerAt, isFast, touchesTable, Onward, Further, endAt, Stands, saidDesk, sharedFor, updatesLine, unchangedLine, toldDesk, sharedDesk, sharedLines, endedWith, newStationWith}
-use Rattle.tape.specs.Item.{wordsFrom, itemAt, takes, stops, wordAfter, keyAt, bodyAt}
-use Rattle.tape.specs.Run.{Player, playerOf, Told, fields, updates, toldText, Line, lineOf, fieldsWhere, actionFields, rateTold, Step, silent, saying, called, plain, rated, sentBy, played, linesOf, textOf, restOf, Ending, endingOf, advanced, tapeSettings, newPlayer, tapeText, roomFor, runOf, ranTape, linesLeft}
+use Rattle.tape.specs.Desk.{Desk, placeOf, deskOf, stationAt, playerAt, endAt, Stands, isAdvance, isPaced, isSignal, isSample, isTick, Onward, sharedFor, sharedEnd, haltedEnd, restOf, Ending, endingOf, endedWith, newStationWith}
+use Rattle.tape.specs.Item.{wordsOf, wordsFrom, itemAt, takes, stops, wordAfter, keyAt, bodyAt}
+use Rattle.tape.specs.Run.{Player, playerOf, Told, fields, updates, toldText, Line, lineOf, fieldsWhere, actionFields, rateTold, Step, silent, saying, called, plain, rated, sentBy, played, linesOf, textOf, advanced, tapeSettings, newPlayer, tapeText, roomFor, runOf, ranTape, linesLeft}
 use Rattle.tape.specs.Text.{written, ended, header, fieldsText, lineText}
 use Rattle.tape.specs.declared.item.Item.{Item}
 use Rattle.tape.specs.declared.item.Item.the-variants.{End, Broken, Advance, Register, Eagain, Tos, Nacks, Rtt, Tick, HandIn, Send, SetRate}
-use Rattle.tape.specs.declared.run.Desk.{Desk}
-use Rattle.tape.specs.declared.run.Moved.{Moved}
-use Rattle.tape.specs.declared.run.Shared.{Shared}
 use Rattle.tape.specs.declared.text.Fields.{Fields}
 use Rattle.tape.specs.declared.text.Fields.the-variants.{Nothing, Flag, Unchanged}
 use Rattle.tape.proofs.Items.{items-first, items-next, items-end, items-broken, item-whole, item-inside, body-whole, takes-least}
@@ -136,8 +133,8 @@ silent-ending bytes ls at p k item q next e es ep en =
 
 pub advance-ends :
     (bytes ls : List ℕ) (c : StationConfig) (d : Desk) (t : PeerRttTracker) (a : BudgetAllocator) (words pool : List ℕ) (micros next : ℕ)
-    → Stands bytes d next (Advance micros)
-    → endAt bytes c ls (deskOf (placeOf next (d .place .at) (advanced (d .place .clock) micros)) (d .ledger) (d .core) (d .roster)) t a words pool ≡ endAt bytes c ls d t a words pool
+    → Stands bytes (d .place .word) next (Advance micros)
+    → endAt bytes c ls (deskOf (placeOf next (d .place .at) (advanced (d .place .clock) micros) (d .place .ledger)) (d .core) (d .roster)) t a words pool ≡ endAt bytes c ls d t a words pool
 unfolding stops played
 advance-ends bytes ls c d t a words pool micros next h =
     silent-ending bytes ls (d .place .at) (playerAt c d t a words pool) (d .place .word) (Advance micros) _ next (h .0) refl refl (h .1)
@@ -145,26 +142,26 @@ advance-ends bytes ls c d t a words pool micros next h =
 -- what a hand-in of n bytes comes to on the parts
 abbrev pub handedOn : List ℕ → StationConfig → Desk → List ℕ → ℕ → ℕ → Priority → ℕ → Handed
 handedOn bytes c d words room i class n =
-    pacer.handedBy (answerOf (handInChecksOn (d .ledger) (c .pacer) (d .roster .count) room (d .place .clock) i n)) (d .ledger) (writerAt (d .roster) i .pacer) words (d .place .clock) i class (keyAt bytes (d .place .word) class)
+    pacer.handedBy (answerOf (handInChecksOn (d .place .ledger) (c .pacer) (d .roster .count) room (d .place .clock) i n)) (d .place .ledger) (writerAt (d .roster) i .pacer) words (d .place .clock) i class (keyAt bytes (d .place .word) class)
 
 abbrev pub wordsHandedOn : List ℕ → StationConfig → Desk → List ℕ → ℕ → ℕ → Priority → ℕ → List ℕ
 wordsHandedOn bytes c d words room i class n =
-    pacer.wordsHandedBy (answerOf (handInChecksOn (d .ledger) (c .pacer) (d .roster .count) room (d .place .clock) i n)) (writerAt (d .roster) i .pacer) words i class (keyAt bytes (d .place .word) class) n
+    pacer.wordsHandedBy (answerOf (handInChecksOn (d .place .ledger) (c .pacer) (d .roster .count) room (d .place .clock) i n)) (writerAt (d .roster) i .pacer) words i class (keyAt bytes (d .place .word) class) n
 
 abbrev pub poolHandedOn : List ℕ → StationConfig → Desk → List ℕ → List ℕ → ℕ → Priority → List ℕ → ℕ → List ℕ
 poolHandedOn bytes c d words pool i class sample n =
-    pacer.poolHandedBy (answerOf (handInChecksOn (d .ledger) (c .pacer) (d .roster .count) (length pool) (d .place .clock) i n)) (writerAt (d .roster) i .pacer) words (c .pacer .limits) i class (keyAt bytes (d .place .word) class) sample pool
+    pacer.poolHandedBy (answerOf (handInChecksOn (d .place .ledger) (c .pacer) (d .roster .count) (length pool) (d .place .clock) i n)) (writerAt (d .roster) i .pacer) words (c .pacer .limits) i class (keyAt bytes (d .place .word) class) sample pool
 
 -- a desk whose pacer i a call has left
 abbrev pub pacedDesk : Desk → ℕ → ℕ → ℕ → Ledger → PacerCore → Desk
-pacedDesk d next at i l k = deskOf (placeOf next at (d .place .clock)) l (d .core) (withPacer (d .roster) i k)
+pacedDesk d next at i l k = deskOf (placeOf next at (d .place .clock) l) (d .core) (withPacer (d .roster) i k)
 
 abbrev pub plainLine : Desk → ℕ → List ℕ
 plainLine d answer = lineText (d .place .word) answer (fieldsText Nothing)
 
 pub hand-in-ends :
     (bytes ls : List ℕ) (c : StationConfig) (d : Desk) (t : PeerRttTracker) (a : BudgetAllocator) (words pool : List ℕ) (i : ℕ) (class : Priority) (n m next : ℕ)
-    → Stands bytes d next (HandIn i class n) → m ≡ length (bodyAt bytes (d .place .word) class n)
+    → Stands bytes (d .place .word) next (HandIn i class n) → m ≡ length (bodyAt bytes (d .place .word) class n)
     → endAt bytes c (written ls (d .place .at) (plainLine d (handedOn bytes c d words (length pool) i class m .answer)))
     (pacedDesk d next (ended (length ls) (d .place .at) (length (plainLine d (handedOn bytes c d words (length pool) i class m .answer)))) i (handedOn bytes c d words (length pool) i class m .ledger) (handedOn bytes c d words (length pool) i class m .core))
     t a (wordsHandedOn bytes c d words (length pool) i class m) (poolHandedOn bytes c d words pool i class (bodyAt bytes (d .place .word) class n) m)
@@ -184,18 +181,18 @@ hand-in-ends bytes ls c d t a words pool i class n m next h em =
 -- what a send attempt comes to on the parts
 abbrev pub triedOn : StationConfig → Desk → List ℕ → ℕ → ℕ → SendTried
 triedOn c d words room i =
-    pacer.sentBy (answerOf (sendChecksOn (d .ledger) (c .pacer) (d .roster .count) room (d .place .clock) i)) (c .pacer .enabled) (d .ledger) (writerAt (d .roster) i .pacer) words (d .place .clock) i
+    pacer.sentBy (answerOf (sendChecksOn (d .place .ledger) (c .pacer) (d .roster .count) room (d .place .clock) i)) (c .pacer .enabled) (d .place .ledger) (writerAt (d .roster) i .pacer) words (d .place .clock) i
 
 abbrev pub wordsTriedOn : StationConfig → Desk → List ℕ → ℕ → ℕ → List ℕ
 wordsTriedOn c d words room i =
-    pacer.wordsSentBy (answerOf (sendChecksOn (d .ledger) (c .pacer) (d .roster .count) room (d .place .clock) i)) (c .pacer .enabled) (writerAt (d .roster) i .pacer) words (d .place .clock) i
+    pacer.wordsSentBy (answerOf (sendChecksOn (d .place .ledger) (c .pacer) (d .roster .count) room (d .place .clock) i)) (c .pacer .enabled) (writerAt (d .roster) i .pacer) words (d .place .clock) i
 
 abbrev pub sentLine : Desk → SendTried → List ℕ
 sentLine d x = lineText (d .place .word) (x .answer) (fieldsText (fieldsWhere (x .answer) (actionFields (x .action))))
 
 pub send-ends :
     (bytes ls : List ℕ) (c : StationConfig) (d : Desk) (t : PeerRttTracker) (a : BudgetAllocator) (words pool : List ℕ) (i next room : ℕ)
-    → Stands bytes d next (Send i) → length pool ≡ room
+    → Stands bytes (d .place .word) next (Send i) → length pool ≡ room
     → endAt bytes c (written ls (d .place .at) (sentLine d (triedOn c d words room i)))
     (pacedDesk d next (ended (length ls) (d .place .at) (length (sentLine d (triedOn c d words room i)))) i (triedOn c d words room i .ledger) (triedOn c d words room i .core))
     t a (wordsTriedOn c d words room i) pool
@@ -209,6 +206,10 @@ send-ends bytes ls c d t a words pool i next room h er =
     (said-ending bytes ls (d .place .at) (playerAt c d t a words pool) (d .place .word) (Send i) _ _ next (h .0) refl
     (ap (sentBy (playerAt c d t a words pool) (d .place .word)) (sym (sent-parts (stationAt c d t a words) (length pool) (d .place .clock) i))) (h .1))
 
+-- what a call on the core leaves of a desk, its line written up to a byte
+abbrev pub saidDesk : Desk → ℕ → CoreLeft → ℕ → Desk
+saidDesk d next x at = deskOf (placeOf next at (d .place .clock) (x .ledger)) (x .core) (d .roster)
+
 -- a call on the core
 abbrev pub coreLine : Desk → CoreLeft → Fields → List ℕ
 coreLine d x f = lineText (d .place .word) (x .answer) (fieldsText f)
@@ -216,7 +217,7 @@ coreLine d x f = lineText (d .place .word) (x .answer) (fieldsText f)
 pub core-ends :
     (bytes ls : List ℕ) (c : StationConfig) (d : Desk) (t : PeerRttTracker) (a : BudgetAllocator) (words pool : List ℕ) (item : Item) (next : ℕ)
     (told : StationAnswer → Told) (x : StationAnswer) (left : CoreLeft) (f : Fields)
-    → Stands bytes d next item → stops item ≡ false
+    → Stands bytes (d .place .word) next item → stops item ≡ false
     → played bytes (playerAt c d t a words pool) (d .place .word) item ≡ called (playerAt c d t a words pool) (d .place .word) (told x) x
     → coreLeftBy (stationAt c d t a words) left ≡ x → told (coreLeftBy (stationAt c d t a words) left) ≡ fields f
     → endAt bytes c (written ls (d .place .at) (coreLine d left f)) (saidDesk d next left (ended (length ls) (d .place .at) (length (coreLine d left f)))) t a words pool
@@ -228,7 +229,7 @@ core-ends bytes ls c d t a words pool item next told x left f h es ep ex ef =
 
 pub eagain-ends :
     (bytes ls : List ℕ) (c : StationConfig) (d : Desk) (t : PeerRttTracker) (a : BudgetAllocator) (words pool : List ℕ) (next : ℕ) (left : CoreLeft)
-    → Stands bytes d next Eagain → left ≡ eagainCore (d .ledger) (c .controller) (d .core) (d .place .clock)
+    → Stands bytes (d .place .word) next Eagain → left ≡ eagainCore (d .place .ledger) (c .controller) (d .core) (d .place .clock)
     → endAt bytes c (written ls (d .place .at) (coreLine d left Nothing)) (saidDesk d next left (ended (length ls) (d .place .at) (length (coreLine d left Nothing)))) t a words pool
     ≡ endAt bytes c ls d t a words pool
 unfolding stops played
@@ -238,7 +239,7 @@ eagain-ends bytes ls c d t a words pool next left h e =
 
 pub nacks-ends :
     (bytes ls : List ℕ) (c : StationConfig) (d : Desk) (t : PeerRttTracker) (a : BudgetAllocator) (words pool : List ℕ) (next count : ℕ) (left : CoreLeft)
-    → Stands bytes d next (Nacks count) → left ≡ nacksCore (d .ledger) (c .controller) (d .core) (d .place .clock) count
+    → Stands bytes (d .place .word) next (Nacks count) → left ≡ nacksCore (d .place .ledger) (c .controller) (d .core) (d .place .clock) count
     → endAt bytes c (written ls (d .place .at) (coreLine d left Nothing)) (saidDesk d next left (ended (length ls) (d .place .at) (length (coreLine d left Nothing)))) t a words pool
     ≡ endAt bytes c ls d t a words pool
 unfolding stops played
@@ -248,7 +249,7 @@ nacks-ends bytes ls c d t a words pool next count left h e =
 
 pub tos-ends :
     (bytes ls : List ℕ) (c : StationConfig) (d : Desk) (t : PeerRttTracker) (a : BudgetAllocator) (words pool : List ℕ) (next tos : ℕ) (left : CoreLeft) (f : Fields)
-    → Stands bytes d next (Tos tos) → left ≡ tosCore (d .ledger) (c .controller) (d .core) (d .place .clock) tos → f ≡ fieldsWhere (left .answer) (Flag (left .told))
+    → Stands bytes (d .place .word) next (Tos tos) → left ≡ tosCore (d .place .ledger) (c .controller) (d .core) (d .place .clock) tos → f ≡ fieldsWhere (left .answer) (Flag (left .told))
     → endAt bytes c (written ls (d .place .at) (coreLine d left f)) (saidDesk d next left (ended (length ls) (d .place .at) (length (coreLine d left f)))) t a words pool
     ≡ endAt bytes c ls d t a words pool
 unfolding stops played
@@ -262,7 +263,7 @@ unchanged x = fieldsWhere (x .answer) Unchanged
 
 untold-ends :
     (bytes ls : List ℕ) (c : StationConfig) (d : Desk) (t : PeerRttTracker) (a : BudgetAllocator) (words pool : List ℕ) (item : Item) (next rate : ℕ) (x : StationAnswer) (left : CoreLeft)
-    → Stands bytes d next item → stops item ≡ false
+    → Stands bytes (d .place .word) next item → stops item ≡ false
     → played bytes (playerAt c d t a words pool) (d .place .word) item ≡ rated (playerAt c d t a words pool) (d .place .word) x
     → sharedBy (stationAt c d t a words) left (d .place .clock) rate ≡ x → left .told ≡ false
     → endAt bytes c (written ls (d .place .at) (coreLine d left (unchanged left))) (saidDesk d next left (ended (length ls) (d .place .at) (length (coreLine d left (unchanged left))))) t a words pool
@@ -274,7 +275,7 @@ untold-ends bytes ls c d t a words pool item next rate x left h es ep ex et =
 
 pub tick-ends :
     (bytes ls : List ℕ) (c : StationConfig) (d : Desk) (t : PeerRttTracker) (a : BudgetAllocator) (words pool : List ℕ) (next : ℕ) (inflated : Bool) (left : CoreLeft) (f : Fields)
-    → Stands bytes d next Tick → inflated ≡ anyInflated t → left ≡ tickedCore (d .ledger) (c .controller) (d .core) inflated (d .place .clock)
+    → Stands bytes (d .place .word) next Tick → inflated ≡ anyInflated t → left ≡ tickedCore (d .place .ledger) (c .controller) (d .core) inflated (d .place .clock)
     → left .told ≡ false → f ≡ unchanged left
     → endAt bytes c (written ls (d .place .at) (coreLine d left f)) (saidDesk d next left (ended (length ls) (d .place .at) (length (coreLine d left f)))) t a words pool
     ≡ endAt bytes c ls d t a words pool
@@ -288,8 +289,8 @@ tick-ends bytes ls c d t a words pool next inflated left f h ei e et ef =
 
 pub register-ends :
     (bytes ls : List ℕ) (c : StationConfig) (d : Desk) (t : PeerRttTracker) (a : BudgetAllocator) (words pool : List ℕ) (class : Priority) (id next : ℕ) (x : RosterLeft)
-    → Stands bytes d next (Register class id) → x ≡ registeredParts (d .ledger) (c .pacer) a (d .roster) (d .place .clock) id class
-    → endAt bytes c (written ls (d .place .at) (plainLine d (x .answer))) (deskOf (placeOf next (ended (length ls) (d .place .at) (length (plainLine d (x .answer)))) (d .place .clock)) (x .ledger) (d .core) (x .roster)) t (x .allocator) words pool
+    → Stands bytes (d .place .word) next (Register class id) → x ≡ registeredParts (d .place .ledger) (c .pacer) a (d .roster) (d .place .clock) id class
+    → endAt bytes c (written ls (d .place .at) (plainLine d (x .answer))) (deskOf (placeOf next (ended (length ls) (d .place .at) (length (plainLine d (x .answer)))) (d .place .clock) (x .ledger)) (d .core) (x .roster)) t (x .allocator) words pool
     ≡ endAt bytes c ls d t a words pool
 unfolding stops played
 register-ends bytes ls c d t a words pool class id next x h e =
@@ -299,8 +300,8 @@ register-ends bytes ls c d t a words pool class id next x h e =
 
 pub sample-ends :
     (bytes ls : List ℕ) (c : StationConfig) (d : Desk) (t : PeerRttTracker) (a : BudgetAllocator) (words pool : List ℕ) (peer bits next : ℕ) (rtt : Float) (x : TrackerLeft)
-    → Stands bytes d next (Rtt peer bits) → rtt ≡ ofBits binary32 bits → x ≡ sampledTracker (d .ledger) (c .controller) t (d .place .clock) peer rtt
-    → endAt bytes c (written ls (d .place .at) (plainLine d (x .answer))) (deskOf (placeOf next (ended (length ls) (d .place .at) (length (plainLine d (x .answer)))) (d .place .clock)) (x .ledger) (d .core) (d .roster)) (x .tracker) a words pool
+    → Stands bytes (d .place .word) next (Rtt peer bits) → rtt ≡ ofBits binary32 bits → x ≡ sampledTracker (d .place .ledger) (c .controller) t (d .place .clock) peer rtt
+    → endAt bytes c (written ls (d .place .at) (plainLine d (x .answer))) (deskOf (placeOf next (ended (length ls) (d .place .at) (length (plainLine d (x .answer)))) (d .place .clock) (x .ledger)) (d .core) (d .roster)) (x .tracker) a words pool
     ≡ endAt bytes c ls d t a words pool
 unfolding stops played
 sample-ends bytes ls c d t a words pool peer bits next rtt x h er e =
@@ -313,41 +314,23 @@ sample-ends bytes ls c d t a words pool peer bits next rtt x h er e =
 abbrev leftWith : CoreLeft → ℕ → Bool → CoreLeft
 leftWith x answer told = record { answer = answer; told = told; ledger = x .ledger; core = x .core }
 
+-- a desk whose item is done but for the sharing out of its rate
+abbrev pub toldDesk : Desk → CoreLeft → Desk
+toldDesk d x = deskOf (placeOf (d .place .word) (d .place .at) (d .place .clock) (x .ledger)) (x .core) (d .roster)
+
 -- new budgets, with their line
 told-ends :
     (bytes ls : List ℕ) (c : StationConfig) (d : Desk) (t : PeerRttTracker) (a : BudgetAllocator) (words pool : List ℕ) (item : Item) (next rate : ℕ) (x : StationAnswer) (left : CoreLeft)
-    → Stands bytes d next item → stops item ≡ false
+    → Stands bytes (d .place .word) next item → stops item ≡ false
     → played bytes (playerAt c d t a words pool) (d .place .word) item ≡ rated (playerAt c d t a words pool) (d .place .word) x
     → sharedBy (stationAt c d t a words) left (d .place .clock) rate ≡ x → left .answer ≡ 0 → left .told ≡ true
-    → endAt bytes c (written ls (d .place .at) (updatesLine d (sharedFor c d a rate)))
-    (toldDesk d next left (sharedFor c d a rate) (ended (length ls) (d .place .at) (length (updatesLine d (sharedFor c d a rate)))) .desk) t (sharedFor c d a rate .allocator) words pool
-    ≡ endAt bytes c ls d t a words pool
+    → sharedEnd bytes c ls (toldDesk d left) next rate t a words pool ≡ endAt bytes c ls d t a words pool
 unfolding rateTold sharedBy
 told-ends bytes ls c d t a words pool item next rate x left h es ep ex ea et =
     said-ending bytes ls (d .place .at) (playerAt c d t a words pool) (d .place .word) item
     (lineOf (d .place .word) 0 (updates (writersOf (sharedFor c d a rate .allocator .table)))) _ next (h .0) es
     (ep ∙ (ap (rated (playerAt c d t a words pool) (d .place .word)) (sym ex)
     ∙ ap (λ (y : CoreLeft). rated (playerAt c d t a words pool) (d .place .word) (sharedBy (stationAt c d t a words) y (d .place .clock) rate)) (ap₂ (leftWith left) ea et))) (h .1)
-
-abbrev pub sharedWith : Desk → BudgetAllocator → Shared
-sharedWith d a = record { desk = d; allocator = a }
-
--- a rate shared out, or not
-share-ends :
-    (bytes ls : List ℕ) (c : StationConfig) (d : Desk) (t : PeerRttTracker) (a : BudgetAllocator) (words pool : List ℕ) (item : Item) (next rate : ℕ) (x : StationAnswer) (left : CoreLeft)
-    → Stands bytes d next item → stops item ≡ false
-    → played bytes (playerAt c d t a words pool) (d .place .word) item ≡ rated (playerAt c d t a words pool) (d .place .word) x
-    → sharedBy (stationAt c d t a words) left (d .place .clock) rate ≡ x → (left .told ≡ true → left .answer ≡ 0)
-    → endAt bytes c (sharedLines c d a left rate ls) (sharedDesk c d next a left rate ls .desk) t (sharedDesk c d next a left rate ls .allocator) words pool
-    ≡ endAt bytes c ls d t a words pool
-unfolding sharedLines sharedDesk
-share-ends bytes ls c d t a words pool item next rate x left h es ep ex ea = go (left .told) refl
-  where
-    go :
-        (b : Bool) → left .told ≡ b
-        → endAt bytes c (sharedLines c d a left rate ls) (sharedDesk c d next a left rate ls .desk) t (sharedDesk c d next a left rate ls .allocator) words pool ≡ endAt bytes c ls d t a words pool
-    go false e = rw e (untold-ends bytes ls c d t a words pool item next rate x left h es ep ex e)
-    go true e = rw e (told-ends bytes ls c d t a words pool item next rate x left h es ep ex (ea e) e)
 
 -- a rate is shared out by an accepted call only
 pub told-accepted :
@@ -372,28 +355,45 @@ rate-accepted :
 unfolding ratedCore
 rate-accepted l c k time rate = told-accepted (answerOf (rateChecks l time rate)) l k time true (coreSet k c time rate)
 
-pub tick-all-ends :
-    (bytes ls : List ℕ) (c : StationConfig) (d : Desk) (t : PeerRttTracker) (a : BudgetAllocator) (words pool : List ℕ) (next rate : ℕ) (inflated : Bool) (left : CoreLeft)
-    → Stands bytes d next Tick → inflated ≡ anyInflated t → left ≡ tickedCore (d .ledger) (c .controller) (d .core) inflated (d .place .clock)
-    → rate ≡ rateIn left
-    → endAt bytes c (sharedLines c d a left rate ls) (sharedDesk c d next a left rate ls .desk) t (sharedDesk c d next a left rate ls .allocator) words pool
-    ≡ endAt bytes c ls d t a words pool
-unfolding stops played
-tick-all-ends bytes ls c d t a words pool next rate inflated left h ei e er =
-    share-ends bytes ls c d t a words pool Tick next rate _ left h refl refl
-    (tick-shell (stationAt c d t a words) (d .place .clock) rate left (d .core) t inflated refl refl ei e er)
-    (subst (λ (x : CoreLeft). x .told ≡ true → x .answer ≡ 0) (sym e) (tick-accepted (d .ledger) (c .controller) (d .core) inflated (d .place .clock)))
+-- a tick that changed the rate
+pub tick-told-ends :
+    (bytes ls : List ℕ) (c : StationConfig) (d : Desk) (t : PeerRttTracker) (a : BudgetAllocator) (words pool : List ℕ) (next : ℕ) (inflated : Bool) (left : CoreLeft)
+    → Stands bytes (d .place .word) next Tick → inflated ≡ anyInflated t → left ≡ tickedCore (d .place .ledger) (c .controller) (d .core) inflated (d .place .clock)
+    → left .told ≡ true
+    → haltedEnd bytes c ls (toldDesk d left) t a words pool ≡ endAt bytes c ls d t a words pool
+unfolding stops played haltedEnd
+tick-told-ends bytes ls c d t a words pool next inflated left h ei e et =
+    rw (ap isTick (h .0), sym (h .1))
+    (told-ends bytes ls c d t a words pool Tick next (rateIn left) _ left h refl refl
+    (tick-shell (stationAt c d t a words) (d .place .clock) (rateIn left) left (d .core) t inflated refl refl ei e refl)
+    (subst (λ (x : CoreLeft). x .told ≡ true → x .answer ≡ 0) (sym e) (tick-accepted (d .place .ledger) (c .controller) (d .core) inflated (d .place .clock)) et) et)
 
-pub set-rate-ends :
+set-rate-played :
+    (c : StationConfig) (d : Desk) (t : PeerRttTracker) (a : BudgetAllocator) (words : List ℕ) (rate : ℕ) (left : CoreLeft) → left ≡ ratedCore (d .place .ledger) (c .controller) (d .core) (d .place .clock) rate
+    → sharedBy (stationAt c d t a words) left (d .place .clock) rate ≡ ratedStation (stationAt c d t a words) (d .place .clock) rate
+set-rate-played c d t a words rate left e =
+    ap (λ (x : CoreLeft). sharedBy (stationAt c d t a words) x (d .place .clock) rate) e ∙ rated-parts (stationAt c d t a words) (d .place .clock) rate
+
+-- a rate setting that is shared out
+pub set-rate-told-ends :
     (bytes ls : List ℕ) (c : StationConfig) (d : Desk) (t : PeerRttTracker) (a : BudgetAllocator) (words pool : List ℕ) (next rate : ℕ) (left : CoreLeft)
-    → Stands bytes d next (SetRate rate) → left ≡ ratedCore (d .ledger) (c .controller) (d .core) (d .place .clock) rate
-    → endAt bytes c (sharedLines c d a left rate ls) (sharedDesk c d next a left rate ls .desk) t (sharedDesk c d next a left rate ls .allocator) words pool
+    → Stands bytes (d .place .word) next (SetRate rate) → left ≡ ratedCore (d .place .ledger) (c .controller) (d .core) (d .place .clock) rate → left .told ≡ true
+    → sharedEnd bytes c ls (toldDesk d left) next rate t a words pool ≡ endAt bytes c ls d t a words pool
+unfolding stops played
+set-rate-told-ends bytes ls c d t a words pool next rate left h e et =
+    told-ends bytes ls c d t a words pool (SetRate rate) next rate _ left h refl refl (set-rate-played c d t a words rate left e)
+    (subst (λ (x : CoreLeft). x .told ≡ true → x .answer ≡ 0) (sym e) (rate-accepted (d .place .ledger) (c .controller) (d .core) (d .place .clock) rate) et) et
+
+-- .. or turned down
+pub set-rate-ends :
+    (bytes ls : List ℕ) (c : StationConfig) (d : Desk) (t : PeerRttTracker) (a : BudgetAllocator) (words pool : List ℕ) (next rate : ℕ) (left : CoreLeft) (f : Fields)
+    → Stands bytes (d .place .word) next (SetRate rate) → left ≡ ratedCore (d .place .ledger) (c .controller) (d .core) (d .place .clock) rate → left .told ≡ false → f ≡ unchanged left
+    → endAt bytes c (written ls (d .place .at) (coreLine d left f)) (saidDesk d next left (ended (length ls) (d .place .at) (length (coreLine d left f)))) t a words pool
     ≡ endAt bytes c ls d t a words pool
 unfolding stops played
-set-rate-ends bytes ls c d t a words pool next rate left h e =
-    share-ends bytes ls c d t a words pool (SetRate rate) next rate _ left h refl refl
-    (ap (λ (x : CoreLeft). sharedBy (stationAt c d t a words) x (d .place .clock) rate) e ∙ rated-parts (stationAt c d t a words) (d .place .clock) rate)
-    (subst (λ (x : CoreLeft). x .told ≡ true → x .answer ≡ 0) (sym e) (rate-accepted (d .ledger) (c .controller) (d .core) (d .place .clock) rate))
+set-rate-ends bytes ls c d t a words pool next rate left f h e et ef =
+    subst (λ (f : Fields). endAt bytes c (written ls (d .place .at) (coreLine d left f)) (saidDesk d next left (ended (length ls) (d .place .at) (length (coreLine d left f)))) t a words pool ≡ endAt bytes c ls d t a words pool) (sym ef)
+    (untold-ends bytes ls c d t a words pool (SetRate rate) next rate _ left h refl refl (set-rate-played c d t a words rate left e) et)
 
 -- ---- where the tape stops
 
@@ -413,39 +413,88 @@ broken-ends bytes ls at p k e = rw (items-broken bytes k e, append-nil (lineText
 
 -- ---- which items are which, by the tag of the last arm
 
-abbrev pub slowTags : List ℕ
-slowTags = 0 ∷ 1 ∷ 3 ∷ 7 ∷ 11 ∷ []
+-- what is none of a match's own items
+abbrev pub stillTags : List ℕ
+stillTags = 0 ∷ 1 ∷ 3 ∷ 4 ∷ 5 ∷ 6 ∷ 7 ∷ 8 ∷ 9 ∷ 10 ∷ 11 ∷ []
 
-pub slow-item : (i : Item) → OneOf slowTags (tagOf the-type i) → isFast i ≡ false
-slow-item End h = refl
-slow-item Broken h = refl
-slow-item (Advance v) h = absurd (miss slowTags 2 tt h)
-slow-item (Register c id) h = refl
-slow-item Eagain h = absurd (miss slowTags 4 tt h)
-slow-item (Tos tos) h = absurd (miss slowTags 5 tt h)
-slow-item (Nacks count) h = absurd (miss slowTags 6 tt h)
-slow-item (Rtt peer bits) h = refl
-slow-item Tick h = absurd (miss slowTags 8 tt h)
-slow-item (HandIn i c n) h = absurd (miss slowTags 9 tt h)
-slow-item (Send i) h = absurd (miss slowTags 10 tt h)
-slow-item (SetRate rate) h = refl
+pub still-item : (i : Item) → OneOf stillTags (tagOf the-type i) → isAdvance i ≡ false
+still-item End h = refl
+still-item Broken h = refl
+still-item (Advance v) h = absurd (miss stillTags 2 tt h)
+still-item (Register c id) h = refl
+still-item Eagain h = refl
+still-item (Tos tos) h = refl
+still-item (Nacks count) h = refl
+still-item (Rtt peer bits) h = refl
+still-item Tick h = refl
+still-item (HandIn i c n) h = refl
+still-item (Send i) h = refl
+still-item (SetRate rate) h = refl
 
-abbrev pub otherTags : List ℕ
-otherTags = 0 ∷ 1 ∷ 2 ∷ 4 ∷ 5 ∷ 6 ∷ 9 ∷ 10 ∷ []
+abbrev pub unpacedTags : List ℕ
+unpacedTags = 0 ∷ 1 ∷ 2 ∷ 3 ∷ 4 ∷ 5 ∷ 6 ∷ 7 ∷ 8 ∷ 11 ∷ []
 
-pub other-item : (i : Item) → OneOf otherTags (tagOf the-type i) → touchesTable i ≡ false
-other-item End h = refl
-other-item Broken h = refl
-other-item (Advance v) h = refl
-other-item (Register c id) h = absurd (miss otherTags 3 tt h)
-other-item Eagain h = refl
-other-item (Tos tos) h = refl
-other-item (Nacks count) h = refl
-other-item (Rtt peer bits) h = absurd (miss otherTags 7 tt h)
-other-item Tick h = absurd (miss otherTags 8 tt h)
-other-item (HandIn i c n) h = refl
-other-item (Send i) h = refl
-other-item (SetRate rate) h = absurd (miss otherTags 11 tt h)
+pub unpaced-item : (i : Item) → OneOf unpacedTags (tagOf the-type i) → isAdvance i ≡ false → isPaced i ≡ false
+unpaced-item End h e = refl
+unpaced-item Broken h e = refl
+unpaced-item (Advance v) h e = absurd (not-both (sym e))
+unpaced-item (Register c id) h e = refl
+unpaced-item Eagain h e = refl
+unpaced-item (Tos tos) h e = refl
+unpaced-item (Nacks count) h e = refl
+unpaced-item (Rtt peer bits) h e = refl
+unpaced-item Tick h e = refl
+unpaced-item (HandIn i c n) h e = absurd (miss unpacedTags 9 tt h)
+unpaced-item (Send i) h e = absurd (miss unpacedTags 10 tt h)
+unpaced-item (SetRate rate) h e = refl
+
+abbrev pub unsignalledTags : List ℕ
+unsignalledTags = 0 ∷ 1 ∷ 2 ∷ 3 ∷ 7 ∷ 9 ∷ 10 ∷ 11 ∷ []
+
+pub unsignalled-item : (i : Item) → OneOf unsignalledTags (tagOf the-type i) → isAdvance i ≡ false → isSignal i ≡ false
+unsignalled-item End h e = refl
+unsignalled-item Broken h e = refl
+unsignalled-item (Advance v) h e = absurd (not-both (sym e))
+unsignalled-item (Register c id) h e = refl
+unsignalled-item Eagain h e = absurd (miss unsignalledTags 4 tt h)
+unsignalled-item (Tos tos) h e = absurd (miss unsignalledTags 5 tt h)
+unsignalled-item (Nacks count) h e = absurd (miss unsignalledTags 6 tt h)
+unsignalled-item (Rtt peer bits) h e = refl
+unsignalled-item Tick h e = absurd (miss unsignalledTags 8 tt h)
+unsignalled-item (HandIn i c n) h e = refl
+unsignalled-item (Send i) h e = refl
+unsignalled-item (SetRate rate) h e = refl
+
+pub untimed-item : (i : Item) → OneOf unsignalledTags (tagOf the-type i) → isTick i ≡ false
+untimed-item End h = refl
+untimed-item Broken h = refl
+untimed-item (Advance v) h = refl
+untimed-item (Register c id) h = refl
+untimed-item Eagain h = absurd (miss unsignalledTags 4 tt h)
+untimed-item (Tos tos) h = absurd (miss unsignalledTags 5 tt h)
+untimed-item (Nacks count) h = absurd (miss unsignalledTags 6 tt h)
+untimed-item (Rtt peer bits) h = refl
+untimed-item Tick h = absurd (miss unsignalledTags 8 tt h)
+untimed-item (HandIn i c n) h = refl
+untimed-item (Send i) h = refl
+untimed-item (SetRate rate) h = refl
+
+abbrev pub unsampledTags : List ℕ
+unsampledTags = 0 ∷ 1 ∷ 2 ∷ 3 ∷ 4 ∷ 5 ∷ 6 ∷ 8 ∷ 9 ∷ 10 ∷ 11 ∷ []
+
+pub unsampled-item : (i : Item) → OneOf unsampledTags (tagOf the-type i) → isAdvance i ≡ false → isSample i ≡ false
+unsampled-item End h e = refl
+unsampled-item Broken h e = refl
+unsampled-item (Advance v) h e = absurd (not-both (sym e))
+unsampled-item (Register c id) h e = refl
+unsampled-item Eagain h e = refl
+unsampled-item (Tos tos) h e = refl
+unsampled-item (Nacks count) h e = refl
+unsampled-item (Rtt peer bits) h e = absurd (miss unsampledTags 7 tt h)
+unsampled-item Tick h e = refl
+unsampled-item (HandIn i c n) h e = refl
+unsampled-item (Send i) h e = refl
+unsampled-item (SetRate rate) h e = refl
 
 abbrev pub goingTags : List ℕ
 goingTags = 2 ∷ 3 ∷ 4 ∷ 5 ∷ 6 ∷ 7 ∷ 8 ∷ 9 ∷ 10 ∷ 11 ∷ []
@@ -484,47 +533,124 @@ end-item (HandIn i c n) h e = absurd (not-both e)
 end-item (Send i) h e = absurd (not-both e)
 end-item (SetRate rate) h e = absurd (not-both e)
 
--- an item that neither stops the tape nor leaves the tables alone touches one
-pub table-item : (i : Item) → stops i ≡ false → isFast i ≡ false → touchesTable i ≡ true
-unfolding stops
-table-item End e f = absurd (not-both (sym e))
-table-item Broken e f = absurd (not-both (sym e))
-table-item (Advance v) e f = absurd (not-both (sym f))
-table-item (Register c id) e f = refl
-table-item Eagain e f = absurd (not-both (sym f))
-table-item (Tos tos) e f = absurd (not-both (sym f))
-table-item (Nacks count) e f = absurd (not-both (sym f))
-table-item (Rtt peer bits) e f = refl
-table-item Tick e f = refl
-table-item (HandIn i c n) e f = absurd (not-both (sym f))
-table-item (Send i) e f = absurd (not-both (sym f))
-table-item (SetRate rate) e f = refl
+-- what neither touches a table nor stops the tape nor is a signal is the pacers'
+abbrev pub untabledTags : List ℕ
+untabledTags = 0 ∷ 1 ∷ 2 ∷ 4 ∷ 5 ∷ 6 ∷ 9 ∷ 10 ∷ []
 
--- what was found at the desk's word
+pub paced-item : (i : Item) → OneOf untabledTags (tagOf the-type i) → stops i ≡ false → isSignal i ≡ false → isPaced i ≡ true
+unfolding stops
+paced-item End h e f = absurd (not-both (sym e))
+paced-item Broken h e f = absurd (not-both (sym e))
+paced-item (Advance v) h e f = absurd (not-both (sym f))
+paced-item (Register c id) h e f = absurd (miss untabledTags 3 tt h)
+paced-item Eagain h e f = absurd (not-both (sym f))
+paced-item (Tos tos) h e f = absurd (not-both (sym f))
+paced-item (Nacks count) h e f = absurd (not-both (sym f))
+paced-item (Rtt peer bits) h e f = absurd (miss untabledTags 7 tt h)
+paced-item Tick h e f = absurd (miss untabledTags 8 tt h)
+paced-item (HandIn i c n) h e f = refl
+paced-item (Send i) h e f = refl
+paced-item (SetRate rate) h e f = absurd (miss untabledTags 11 tt h)
+
+pub untabled-item : (i : Item) → OneOf untabledTags (tagOf the-type i) → isTick i ≡ false
+untabled-item End h = refl
+untabled-item Broken h = refl
+untabled-item (Advance v) h = refl
+untabled-item (Register c id) h = absurd (miss untabledTags 3 tt h)
+untabled-item Eagain h = refl
+untabled-item (Tos tos) h = refl
+untabled-item (Nacks count) h = refl
+untabled-item (Rtt peer bits) h = absurd (miss untabledTags 7 tt h)
+untabled-item Tick h = absurd (miss untabledTags 8 tt h)
+untabled-item (HandIn i c n) h = refl
+untabled-item (Send i) h = refl
+untabled-item (SetRate rate) h = absurd (miss untabledTags 11 tt h)
+
+-- what was found at a word
 pub stands-at :
-    (bytes : List ℕ) (d : Desk) (next : ℕ) (found item : Item) → found ≡ itemAt bytes (d .place .word) → next ≡ wordAfter bytes (d .place .word) found → found ≡ item
-    → Stands bytes d next item
-stands-at bytes d next found item e en ei = (sym e ∙ ei, en ∙ ap (wordAfter bytes (d .place .word)) ei)
+    (bytes : List ℕ) (word next : ℕ) (found item : Item) → found ≡ itemAt bytes word → next ≡ wordAfter bytes word found → found ≡ item
+    → Stands bytes word next item
+stands-at bytes word next found item e en ei = (sym e ∙ ei, en ∙ ap (wordAfter bytes word) ei)
 
 -- ---- further on the tape
 
-pub further-on : (bytes : List ℕ) (d d′ : Desk) (item : Item) (next : ℕ) → Stands bytes d next item → stops item ≡ false → d′ .place .word ≡ next → Further bytes d d′
-further-on bytes d d′ item next h es ew =
-    let going : stops (itemAt bytes (d .place .word)) ≡ false = ap stops (h .0) ∙ es in
-    let to : d′ .place .word ≡ d .place .word + takes (itemAt bytes (d .place .word)) =
-    ew ∙ (h .1 ∙ (ap (wordAfter bytes (d .place .word)) (sym (h .0)) ∙ after-whole bytes (d .place .word) going)) in
-    (omega (arith, to, takes-least (itemAt bytes (d .place .word))), omega (arith, to, item-inside bytes (d .place .word) going))
+pub further-on :
+    (bytes : List ℕ) (word to : ℕ) (item : Item) (next : ℕ) → Stands bytes word next item → stops item ≡ false → to ≡ next
+    → (word < to) × (to ≤ wordsOf (length bytes))
+further-on bytes word to item next h es ew =
+    let going : stops (itemAt bytes word) ≡ false = ap stops (h .0) ∙ es in
+    let there : to ≡ word + takes (itemAt bytes word) =
+    ew ∙ (h .1 ∙ (ap (wordAfter bytes word) (sym (h .0)) ∙ after-whole bytes word going)) in
+    (omega (arith, there, takes-least (itemAt bytes word)), omega (arith, there, item-inside bytes word going))
 
+-- an item that moved
 pub moved-on :
-    (bytes : List ℕ) (d d′ : Desk) (item : Item) (next : ℕ) → Stands bytes d next item → stops item ≡ false → d′ .place .word ≡ next
-    → Onward bytes d (record { desk = d′; moved = true })
-moved-on bytes d d′ item next h es ew =
+    (bytes : List ℕ) (goes : Item → Bool) (from word to : ℕ) (moved : Bool) (item : Item) (next : ℕ)
+    → from ≤ word → Stands bytes word next item → stops item ≡ false → to ≡ next → moved ≡ true → Onward bytes goes from to moved
+moved-on bytes goes from word to moved item next ha h es ew em =
+    let on = further-on bytes word to item next h es ew in
     record {
-      further = λ e. further-on bytes d d′ item next h es ew .0;
-      inside = λ e. further-on bytes d d′ item next h es ew .1;
-      same = λ e. absurd (not-both (sym e));
-      halted = λ e. absurd (not-both (sym e));
+      ahead = omega (arith, ha, on .0);
+      inside = λ e. on .1;
+      further = λ e. (omega (arith, ha, on .0), on .1);
+      halted = λ e. absurd (not-both (sym e ∙ em));
     }
+
+-- an item that is none of a loop's
+pub halted-on :
+    (bytes : List ℕ) (goes : Item → Bool) (from to : ℕ) → Onward bytes isAdvance from to false → goes (itemAt bytes to) ≡ false → Onward bytes goes from to false
+halted-on bytes goes from to o h =
+    record { ahead = o .ahead; inside = o .inside; further = λ e. absurd (not-both e); halted = λ e. h }
+
+-- no advance
+pub still-on : (bytes : List ℕ) (word : ℕ) → isAdvance (itemAt bytes word) ≡ false → Onward bytes isAdvance word word false
+still-on bytes word h = record { ahead = omega arith; inside = λ e. e; further = λ e. absurd (not-both e); halted = λ e. h }
+
+-- a tick, which halts where it changed the rate
+pub tick-on :
+    (bytes : List ℕ) (from word to : ℕ) (moved : Bool) (next : ℕ) → Onward bytes isAdvance from word false → Stands bytes word next Tick
+    → (moved ≡ true → to ≡ next) → (moved ≡ false → to ≡ word) → Onward bytes isSignal from to moved
+unfolding stops
+tick-on bytes from word to true next o h on still = moved-on bytes isSignal from word to true Tick next (o .ahead) h refl (on refl) refl
+tick-on bytes from word to false next o h on still =
+    subst (λ (n : ℕ). Onward bytes isSignal from n false) (sym (still refl)) (halted-on bytes isSignal from word o (ap isSignal (h .0)))
+
+-- where the loop over signals halts at anything but a tick, nothing is left to share out
+pub halted-still :
+    (bytes ls : List ℕ) (c : StationConfig) (d : Desk) (t : PeerRttTracker) (a : BudgetAllocator) (words pool : List ℕ)
+    → isTick (itemAt bytes (d .place .word)) ≡ false → haltedEnd bytes c ls d t a words pool ≡ endAt bytes c ls d t a words pool
+unfolding haltedEnd
+halted-still bytes ls c d t a words pool e = rw e refl
+
+-- .. and at a tick its rate is
+pub halted-tick :
+    (bytes ls : List ℕ) (c : StationConfig) (d : Desk) (t : PeerRttTracker) (a : BudgetAllocator) (words pool : List ℕ) (next rate : ℕ)
+    → Stands bytes (d .place .word) next Tick → rate ≡ d .core .«rate_controller» .«current_rate»
+    → sharedEnd bytes c ls d next rate t a words pool ≡ haltedEnd bytes c ls d t a words pool
+unfolding haltedEnd
+halted-tick bytes ls c d t a words pool next rate h er = rw (er, ap isTick (h .0), h .1) refl
+
+-- from a word to a later one, never past the tape
+abbrev pub Reached : List ℕ → ℕ → ℕ → Type 0
+Reached bytes from to = (from ≤ to) × (from ≤ wordsOf (length bytes) → to ≤ wordsOf (length bytes))
+
+pub reached-on : (bytes : List ℕ) (goes : Item → Bool) (from mid to : ℕ) (moved : Bool) → Reached bytes from mid → Onward bytes goes mid to moved → Reached bytes from to
+reached-on bytes goes from mid to moved h o = (omega (arith, h .0, o .ahead), λ e. o .inside (h .1 e))
+
+-- from a word that was reached before
+pub since :
+    (bytes : List ℕ) (goes : Item → Bool) (from mid to : ℕ) (moved : Bool) → Reached bytes from mid → Onward bytes goes mid to moved → moved ≡ false → Onward bytes goes from to false
+since bytes goes from mid to moved h o em =
+    let on = reached-on bytes goes from mid to moved h o in
+    record { ahead = on .0; inside = on .1; further = λ e. absurd (not-both e); halted = λ e. o .halted em }
+
+-- words with unlike items are apart
+pub apart : (bytes : List ℕ) (goes : Item → Bool) (from to : ℕ) → from ≤ to → (goes (itemAt bytes from) ≡ goes (itemAt bytes to) → ⊥) → from < to
+apart bytes goes from to h differ = go (decLe to from)
+  where
+    go : Dec (to ≤ from) → from < to
+    go (yes l) = absurd (differ (ap (λ (n : ℕ). goes (itemAt bytes n)) (omega (arith, h, l))))
+    go (no l) = omega (arith, l)
 
 -- ---- room for the lines
 
@@ -535,54 +661,27 @@ room-for room words h = go (decLe (24 + 192 * words) room)
     go (yes l) = le-ltb ((room - 24) / 192) words (omega (arith, l)) ∙ sym (le-ltb room (24 + 192 * words) l)
     go (no l) = lt-ltb ((room - 24) / 192) words (omega (arith, l)) ∙ sym (lt-ltb room (24 + 192 * words) (omega (arith, l)))
 
-pub shared-word : (c : StationConfig) (d : Desk) (next : ℕ) (a : BudgetAllocator) (x : CoreLeft) (rate : ℕ) (ls : List ℕ) → sharedDesk c d next a x rate ls .desk .place .word ≡ next
-unfolding sharedDesk
-shared-word c d next a x rate ls = go (x .told)
-  where
-    go :
-        (b : Bool)
-        → cond {A = Shared} b
-        (toldDesk d next x (sharedFor c d a rate) (ended (length ls) (d .place .at) (length (updatesLine d (sharedFor c d a rate)))))
-        (record { desk = saidDesk d next x (ended (length ls) (d .place .at) (length (unchangedLine d x))); allocator = a }) .desk .place .word
-        ≡ next
-    go true = refl
-    go false = refl
-
 -- ---- with what the callees gave
 
 pub hand-in-shell :
     (bytes ls : List ℕ) (c : StationConfig) (d : Desk) (t : PeerRttTracker) (a : BudgetAllocator) (words pool : List ℕ) (i : ℕ) (class : Priority) (n next : ℕ)
     (h : Handed) (words′ pool′ ls′ : List ℕ) (at′ : ℕ) (r : Roster) (sample : List ℕ) (key : InstanceKey) (k : PacerCore) (count : ℕ) (settings : PacerConfig)
-    → Stands bytes d next (HandIn i class n)
+    → Stands bytes (d .place .word) next (HandIn i class n)
     → settings ≡ c .pacer → count ≡ d .roster .count → k ≡ writerAt (d .roster) i .pacer → key ≡ keyAt bytes (d .place .word) class → sample ≡ bodyAt bytes (d .place .word) class n
-    → h ≡ pacer.handedBy (answerOf (handInChecksOn (d .ledger) settings count (length pool) (d .place .clock) i (length sample))) (d .ledger) k words (d .place .clock) i class key
-    → words′ ≡ pacer.wordsHandedBy (answerOf (handInChecksOn (d .ledger) settings count (length pool) (d .place .clock) i (length sample))) k words i class key (length sample)
-    → pool′ ≡ pacer.poolHandedBy (answerOf (handInChecksOn (d .ledger) settings count (length pool) (d .place .clock) i (length sample))) k words (settings .limits) i class key sample pool
+    → h ≡ pacer.handedBy (answerOf (handInChecksOn (d .place .ledger) settings count (length pool) (d .place .clock) i (length sample))) (d .place .ledger) k words (d .place .clock) i class key
+    → words′ ≡ pacer.wordsHandedBy (answerOf (handInChecksOn (d .place .ledger) settings count (length pool) (d .place .clock) i (length sample))) k words i class key (length sample)
+    → pool′ ≡ pacer.poolHandedBy (answerOf (handInChecksOn (d .place .ledger) settings count (length pool) (d .place .clock) i (length sample))) k words (settings .limits) i class key sample pool
     → ls′ ≡ written ls (d .place .at) (plainLine d (h .answer)) → at′ ≡ ended (length ls) (d .place .at) (length (plainLine d (h .answer)))
     → r ≡ withPacer (d .roster) i (h .core)
-    → endAt bytes c ls′ (deskOf (placeOf next at′ (d .place .clock)) (h .ledger) (d .core) r) t a words′ pool′ ≡ endAt bytes c ls d t a words pool
+    → endAt bytes c ls′ (deskOf (placeOf next at′ (d .place .clock) (h .ledger)) (d .core) r) t a words′ pool′ ≡ endAt bytes c ls d t a words pool
 hand-in-shell bytes ls c d t a words pool i class n next h words′ pool′ ls′ at′ r sample key k count settings st es ec ek ey eb eh ew ep el ea er =
     rw (er, ea, el, ep, ew, eh, eb, ey, ek, ec, es) (hand-in-ends bytes ls c d t a words pool i class n _ next st refl)
-
-pub tick-on :
-    (bytes : List ℕ) (d : Desk) (next : ℕ) (r : Moved) → Stands bytes d next Tick → (r .moved ≡ true → r .desk .place .word ≡ next) → (r .moved ≡ false → r .desk ≡ d) → Onward bytes d r
-unfolding stops
-tick-on bytes d next r h further same =
-    record {
-      further = λ e. further-on bytes d (r .desk) Tick next h refl (further e) .0;
-      inside = λ e. further-on bytes d (r .desk) Tick next h refl (further e) .1;
-      same = λ e. ap (λ (x : Desk). x .place .word) (same e);
-      halted = λ e. ap (λ (x : Desk). isFast (itemAt bytes (x .place .word))) (same e) ∙ ap isFast (h .0);
-    }
-
-pub halt-on : (bytes : List ℕ) (d : Desk) → isFast (itemAt bytes (d .place .word)) ≡ false → Onward bytes d (record { desk = d; moved = false })
-halt-on bytes d h = record { further = λ e. absurd (not-both e); inside = λ e. absurd (not-both e); same = λ e. refl; halted = λ e. h }
 
 -- a run's first desk
 pub start-shell :
     (bytes ls : List ℕ) (c : StationConfig) (at : ℕ) (words pool : List ℕ) (t : PeerRttTracker) (a : BudgetAllocator) (l : Ledger) (settings : ControllerConfig) (k : ControllerCore) (r : Roster)
     → t ≡ newTracker (ofBits binary32 0x42c8_0000) → a ≡ newAllocator → l ≡ opened 0 → settings ≡ c .controller → k ≡ newCore settings 0 → r ≡ newRoster
-    → endAt bytes c ls (deskOf (placeOf 0 at 0) l k r) t a words pool ≡ endingOf bytes ls at (playerOf (newStationWith c words) 0 pool) 0
+    → endAt bytes c ls (deskOf (placeOf 0 at 0 l) k r) t a words pool ≡ endingOf bytes ls at (playerOf (newStationWith c words) 0 pool) 0
 unfolding newController
 start-shell bytes ls c at words pool t a l settings k r et ea el es ek er = rw (et, ea, el, ek, es, er)
 

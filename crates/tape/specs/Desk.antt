@@ -1,5 +1,5 @@
--- The parts of a run that the program keeps: a desk, and the tables beside it. Definitions only.
-use Prim.Native.Nat.{ℕ, _<_, _≤_}
+-- The parts of a run that the program keeps apart, and what each of its loops leaves of them. Definitions only.
+use Prim.Native.Nat.{ℕ, _-_, _<_, _≤_}
 use mathlib.Core.Bool.{Bool, true, false, cond}
 use mathlib.Core.List.{List}
 use mathlib.Core.Path.{_≡_}
@@ -14,32 +14,48 @@ use Rattle.control.specs.declared.budget_allocator.BudgetAllocator.{BudgetAlloc
 use Rattle.control.specs.declared.controller.ControllerCore.{ControllerCore}
 use Rattle.station.specs.Parts.{sharedOut}
 use Rattle.station.specs.Station.{stationOf, newRoster}
-use Rattle.station.specs.declared.parts.CoreLeft.{CoreLeft}
 use Rattle.station.specs.declared.parts.SharedOut.{SharedOut}
 use Rattle.station.specs.declared.roster.Roster.{Roster}
 use Rattle.station.specs.declared.station.Station.{Station}
 use Rattle.station.specs.declared.station.StationConfig.{StationConfig}
-use Rattle.tape.specs.Item.{wordsOf, itemAt, wordAfter}
-use Rattle.tape.specs.Run.{Player, playerOf, fieldsWhere, Ending, endingOf}
-use Rattle.tape.specs.Text.{written, ended, fieldsText, updatesText, lineText}
+use Rattle.tape.specs.Item.{wordsOf, itemAt, wordAfter, itemsFrom}
+use Rattle.tape.specs.Run.{Player, playerOf, linesOf, textOf}
+use Rattle.tape.specs.Text.{written, ended, updatesText, lineText}
 use Rattle.tape.specs.declared.item.Item.{Item}
 use Rattle.tape.specs.declared.item.Item.the-variants.{End, Broken, Advance, Register, Eagain, Tos, Nacks, Rtt, Tick, HandIn, Send, SetRate}
-use Rattle.tape.specs.declared.run.Desk.{Desk}
-use Rattle.tape.specs.declared.run.Moved.{Moved}
 use Rattle.tape.specs.declared.run.Place.{Place}
-use Rattle.tape.specs.declared.run.Shared.{Shared}
-use Rattle.tape.specs.declared.run.Tabled.{Tabled}
-use Rattle.tape.specs.declared.text.Fields.the-variants.{Unchanged}
 
-abbrev pub placeOf : ℕ → ℕ → ℕ → Place
-placeOf word at clock = record { word = word; at = at; clock = clock }
+-- ---- the rest of a run, from word k on
 
-abbrev pub deskOf : Place → Ledger → ControllerCore → Roster → Desk
-deskOf place l k r = record { place = place; ledger = l; core = k; roster = r }
+abbrev pub restOf : List ℕ → Player → ℕ → List ℕ
+restOf bytes p k = textOf (linesOf bytes p (itemsFrom (wordsOf (length bytes) - k) bytes k 0))
+
+-- what a buffer holds at the end of the run, and where the lines end
+pub record Ending : Type 0 where
+  pub lines : List ℕ
+  pub end : ℕ
+
+unfoldable pub endingOf : List ℕ → List ℕ → ℕ → Player → ℕ → Ending
+endingOf bytes ls at p k =
+    record { lines = written ls at (restOf bytes p k); end = ended (length ls) at (length (restOf bytes p k)) }
+
+-- ---- the parts
+
+-- what a call may touch, the tables, the words and the pool aside
+pub record Desk : Type 0 where
+  pub place : Place
+  pub core : ControllerCore
+  pub roster : Roster
+
+abbrev pub placeOf : ℕ → ℕ → ℕ → Ledger → Place
+placeOf word at clock l = record { word = word; at = at; clock = clock; ledger = l }
+
+abbrev pub deskOf : Place → ControllerCore → Roster → Desk
+deskOf place k g = record { place = place; core = k; roster = g }
 
 -- the station whose parts they are
 abbrev pub stationAt : StationConfig → Desk → PeerRttTracker → BudgetAllocator → List ℕ → Station
-stationAt c d t a words = stationOf (d .ledger) c (controllerOf (d .core) t a) (d .roster) words
+stationAt c d t a words = stationOf (d .place .ledger) c (controllerOf (d .core) t a) (d .roster) words
 
 abbrev pub playerAt : StationConfig → Desk → PeerRttTracker → BudgetAllocator → List ℕ → List ℕ → Player
 playerAt c d t a words pool = playerOf (stationAt c d t a words) (d .place .clock) pool
@@ -48,97 +64,161 @@ playerAt c d t a words pool = playerOf (stationAt c d t a words) (d .place .cloc
 abbrev pub endAt : List ℕ → StationConfig → List ℕ → Desk → PeerRttTracker → BudgetAllocator → List ℕ → List ℕ → Ending
 endAt bytes c ls d t a words pool = endingOf bytes ls (d .place .at) (playerAt c d t a words pool) (d .place .word)
 
--- the end of the run stays as it was, whatever the tables hold
-abbrev pub Kept :
-    List ℕ → StationConfig → List ℕ → Desk → List ℕ → List ℕ → List ℕ → Desk → List ℕ → List ℕ → Type 0
-Kept bytes c ls d words pool ls′ d′ words′ pool′ =
-    (t : PeerRttTracker) (a : BudgetAllocator) → endAt bytes c ls′ d′ t a words′ pool′ ≡ endAt bytes c ls d t a words pool
+-- the item at a word, and the word behind it
+abbrev pub Stands : List ℕ → ℕ → ℕ → Item → Type 0
+Stands bytes word next item = (itemAt bytes word ≡ item) × (next ≡ wordAfter bytes word item)
 
--- .. where the peers are inflated or not, as told
-abbrev pub KeptWhere :
-    Bool → List ℕ → StationConfig → List ℕ → Desk → List ℕ → List ℕ → List ℕ → Desk → List ℕ → List ℕ → Type 0
-KeptWhere inflated bytes c ls d words pool ls′ d′ words′ pool′ =
-    (t : PeerRttTracker) (a : BudgetAllocator) → inflated ≡ anyInflated t
-    → endAt bytes c ls′ d′ t a words′ pool′ ≡ endAt bytes c ls d t a words pool
+-- ---- what each loop goes over
 
--- the item that a desk has come to, and the word behind it
-abbrev pub Stands : List ℕ → Desk → ℕ → Item → Type 0
-Stands bytes d next item = (itemAt bytes (d .place .word) ≡ item) × (next ≡ wordAfter bytes (d .place .word) item)
+abbrev pub isAdvance : Item → Bool
+isAdvance (Advance micros) = true
+isAdvance End = false
+isAdvance Broken = false
+isAdvance (Register c id) = false
+isAdvance Eagain = false
+isAdvance (Tos tos) = false
+isAdvance (Nacks count) = false
+isAdvance (Rtt peer bits) = false
+isAdvance Tick = false
+isAdvance (HandIn i c n) = false
+isAdvance (Send i) = false
+isAdvance (SetRate rate) = false
 
--- what a call on the core leaves of a desk
-abbrev pub saidDesk : Desk → ℕ → CoreLeft → ℕ → Desk
-saidDesk d next x at = deskOf (placeOf next at (d .place .clock)) (x .ledger) (x .core) (d .roster)
+-- hand-ins and send attempts; each loop goes over advances too
+abbrev pub isPaced : Item → Bool
+isPaced (HandIn i c n) = true
+isPaced (Send i) = true
+isPaced End = false
+isPaced Broken = false
+isPaced (Advance micros) = true
+isPaced (Register c id) = false
+isPaced Eagain = false
+isPaced (Tos tos) = false
+isPaced (Nacks count) = false
+isPaced (Rtt peer bits) = false
+isPaced Tick = false
+isPaced (SetRate rate) = false
 
--- items that touch no table, whatever they come to
-abbrev pub isFast : Item → Bool
-isFast End = false
-isFast Broken = false
-isFast (Advance micros) = true
-isFast (Register c id) = false
-isFast Eagain = true
-isFast (Tos tos) = true
-isFast (Nacks count) = true
-isFast (Rtt peer bits) = false
-isFast Tick = false
-isFast (HandIn i c n) = true
-isFast (Send i) = true
-isFast (SetRate rate) = false
+-- signals but samples; a tick ends the loop where it changes the rate
+abbrev pub isSignal : Item → Bool
+isSignal Eagain = true
+isSignal (Tos tos) = true
+isSignal (Nacks count) = true
+isSignal End = false
+isSignal Broken = false
+isSignal (Advance micros) = true
+isSignal (Register c id) = false
+isSignal (Rtt peer bits) = false
+isSignal Tick = false
+isSignal (HandIn i c n) = false
+isSignal (Send i) = false
+isSignal (SetRate rate) = false
 
--- a desk that moved is further on the tape; one that did not has come to an item that may touch a table
-pub record Onward (bytes : List ℕ) (d : Desk) (r : Moved) : Type 0 where
-  pub further : r .moved ≡ true → d .place .word < r .desk .place .word
-  pub inside : r .moved ≡ true → r .desk .place .word ≤ wordsOf (length bytes)
-  pub same : r .moved ≡ false → r .desk .place .word ≡ d .place .word
-  pub halted : r .moved ≡ false → isFast (itemAt bytes (r .desk .place .word)) ≡ false
+abbrev pub isSample : Item → Bool
+isSample (Rtt peer bits) = true
+isSample End = false
+isSample Broken = false
+isSample (Advance micros) = true
+isSample (Register c id) = false
+isSample Eagain = false
+isSample (Tos tos) = false
+isSample (Nacks count) = false
+isSample Tick = false
+isSample (HandIn i c n) = false
+isSample (Send i) = false
+isSample (SetRate rate) = false
 
--- items that touch a table, or may
-abbrev pub touchesTable : Item → Bool
-touchesTable End = false
-touchesTable Broken = false
-touchesTable (Advance micros) = false
-touchesTable (Register c id) = true
-touchesTable Eagain = false
-touchesTable (Tos tos) = false
-touchesTable (Nacks count) = false
-touchesTable (Rtt peer bits) = true
-touchesTable Tick = true
-touchesTable (HandIn i c n) = false
-touchesTable (Send i) = false
-touchesTable (SetRate rate) = true
+abbrev pub isTick : Item → Bool
+isTick Tick = true
+isTick End = false
+isTick Broken = false
+isTick (Advance micros) = false
+isTick (Register c id) = false
+isTick Eagain = false
+isTick (Tos tos) = false
+isTick (Nacks count) = false
+isTick (Rtt peer bits) = false
+isTick (HandIn i c n) = false
+isTick (Send i) = false
+isTick (SetRate rate) = false
 
--- a desk further on the tape
-abbrev pub Further : List ℕ → Desk → Desk → Type 0
-Further bytes d d′ = (d .place .word < d′ .place .word) × (d′ .place .word ≤ wordsOf (length bytes))
+-- from word to word of a tape, never back: what moved is further on, what did not has come to an item that is none of the loop's
+pub record Onward (bytes : List ℕ) (goes : Item → Bool) (from to : ℕ) (moved : Bool) : Type 0 where
+  pub ahead : from ≤ to
+  pub inside : from ≤ wordsOf (length bytes) → to ≤ wordsOf (length bytes)
+  pub further : moved ≡ true → (from < to) × (to ≤ wordsOf (length bytes))
+  pub halted : moved ≡ false → goes (itemAt bytes to) ≡ false
 
--- the end of the run stays as it was, the tables as they are left
-abbrev pub KeptAll : List ℕ → StationConfig → List ℕ → Desk → PeerRttTracker → BudgetAllocator → List ℕ → Tabled → Type 0
-KeptAll bytes c ls d t a ls′ r =
-    (words pool : List ℕ)
-    → endAt bytes c ls′ (r .desk) (r .tracker) (r .allocator) words pool ≡ endAt bytes c ls d t a words pool
+-- ---- the end of the run stays as it was
 
--- a rate shared out, and the line of the updates
+-- .. whatever else the station holds, where advances are taken alone
+abbrev pub Waited : List ℕ → Place → Place → Type 0
+Waited bytes p p′ =
+    (c : StationConfig) (ls : List ℕ) (k : ControllerCore) (g : Roster) (t : PeerRttTracker) (a : BudgetAllocator) (words pool : List ℕ)
+    → endAt bytes c ls (deskOf p′ k g) t a words pool ≡ endAt bytes c ls (deskOf p k g) t a words pool
+
+-- .. whatever controller and tables hold
+abbrev pub PacedOn : List ℕ → StationConfig → List ℕ → Place → Roster → List ℕ → List ℕ → List ℕ → Place → Roster → List ℕ → List ℕ → Type 0
+PacedOn bytes c ls p g words pool ls′ p′ g′ words′ pool′ =
+    (k : ControllerCore) (t : PeerRttTracker) (a : BudgetAllocator)
+    → endAt bytes c ls′ (deskOf p′ k g′) t a words′ pool′ ≡ endAt bytes c ls (deskOf p k g) t a words pool
+
+-- .. whatever writers, pacers and tables hold, but for whether a peer is inflated
+abbrev pub SignalledOn : Bool → List ℕ → StationConfig → List ℕ → Place → ControllerCore → List ℕ → Place → ControllerCore → Type 0
+SignalledOn inflated bytes c ls p k ls′ p′ k′ =
+    (g : Roster) (t : PeerRttTracker) (a : BudgetAllocator) (words pool : List ℕ) → inflated ≡ anyInflated t
+    → endAt bytes c ls′ (deskOf p′ k′ g) t a words pool ≡ endAt bytes c ls (deskOf p k g) t a words pool
+
+-- .. whatever controller, writers and pacers hold
+abbrev pub SampledOn : List ℕ → StationConfig → List ℕ → Place → PeerRttTracker → List ℕ → Place → PeerRttTracker → Type 0
+SampledOn bytes c ls p t ls′ p′ t′ =
+    (k : ControllerCore) (g : Roster) (a : BudgetAllocator) (words pool : List ℕ)
+    → endAt bytes c ls′ (deskOf p′ k g) t′ a words pool ≡ endAt bytes c ls (deskOf p k g) t a words pool
+
+-- .. whatever controller and peers hold
+abbrev pub RegisteredOn : List ℕ → StationConfig → List ℕ → Place → Roster → BudgetAllocator → List ℕ → Place → Roster → BudgetAllocator → Type 0
+RegisteredOn bytes c ls p g a ls′ p′ g′ a′ =
+    (k : ControllerCore) (t : PeerRttTracker) (words pool : List ℕ)
+    → endAt bytes c ls′ (deskOf p′ k g′) t a′ words pool ≡ endAt bytes c ls (deskOf p k g) t a words pool
+
+-- .. whatever the peers hold
+abbrev pub RatedOn : List ℕ → StationConfig → List ℕ → Place → ControllerCore → Roster → BudgetAllocator → List ℕ → Place → ControllerCore → Roster → BudgetAllocator → Type 0
+RatedOn bytes c ls p k g a ls′ p′ k′ g′ a′ =
+    (t : PeerRttTracker) (words pool : List ℕ)
+    → endAt bytes c ls′ (deskOf p′ k′ g′) t a′ words pool ≡ endAt bytes c ls (deskOf p k g) t a words pool
+
+-- ---- a rate shared out
+
 abbrev pub sharedFor : StationConfig → Desk → BudgetAllocator → ℕ → SharedOut
 sharedFor c d a rate = sharedOut c a (d .roster) (d .place .clock) rate
 
+-- the line of the updates
 abbrev pub updatesLine : Desk → SharedOut → List ℕ
 updatesLine d x = lineText (d .place .word) 0 (updatesText (writersOf (x .allocator .table)))
 
-abbrev pub unchangedLine : Desk → CoreLeft → List ℕ
-unchangedLine d x = lineText (d .place .word) (x .answer) (fieldsText (fieldsWhere (x .answer) Unchanged))
+abbrev pub sharedLines : StationConfig → Desk → BudgetAllocator → ℕ → List ℕ → List ℕ
+sharedLines c d a rate ls = written ls (d .place .at) (updatesLine d (sharedFor c d a rate))
 
-abbrev pub toldDesk : Desk → ℕ → CoreLeft → SharedOut → ℕ → Shared
-toldDesk d next x y at =
-    record { desk = deskOf (placeOf next at (d .place .clock)) (x .ledger) (x .core) (y .roster); allocator = y .allocator }
+abbrev pub sharedPlace : StationConfig → Desk → ℕ → BudgetAllocator → ℕ → List ℕ → Place
+sharedPlace c d next a rate ls =
+    placeOf next (ended (length ls) (d .place .at) (length (updatesLine d (sharedFor c d a rate)))) (d .place .clock) (d .place .ledger)
 
-unfoldable pub sharedDesk : StationConfig → Desk → ℕ → BudgetAllocator → CoreLeft → ℕ → List ℕ → Shared
-sharedDesk c d next a x rate ls =
-    cond (x .told)
-    (toldDesk d next x (sharedFor c d a rate) (ended (length ls) (d .place .at) (length (updatesLine d (sharedFor c d a rate)))))
-    (record { desk = saidDesk d next x (ended (length ls) (d .place .at) (length (unchangedLine d x))); allocator = a })
+-- the end of the run from a desk whose item is done but for the sharing out of its rate
+abbrev pub sharedEnd : List ℕ → StationConfig → List ℕ → Desk → ℕ → ℕ → PeerRttTracker → BudgetAllocator → List ℕ → List ℕ → Ending
+sharedEnd bytes c ls d next rate t a words pool =
+    endAt bytes c (sharedLines c d a rate ls) (deskOf (sharedPlace c d next a rate ls) (d .core) (sharedFor c d a rate .roster)) t (sharedFor c d a rate .allocator) words pool
 
-unfoldable pub sharedLines : StationConfig → Desk → BudgetAllocator → CoreLeft → ℕ → List ℕ → List ℕ
-sharedLines c d a x rate ls =
-    cond (x .told) (written ls (d .place .at) (updatesLine d (sharedFor c d a rate))) (written ls (d .place .at) (unchangedLine d x))
+-- .. from where the loop over signals halts: at a tick that changed the rate, or at an item that is none of its own
+unfoldable pub haltedEnd : List ℕ → StationConfig → List ℕ → Desk → PeerRttTracker → BudgetAllocator → List ℕ → List ℕ → Ending
+haltedEnd bytes c ls d t a words pool =
+    cond (isTick (itemAt bytes (d .place .word)))
+    (sharedEnd bytes c ls d (wordAfter bytes (d .place .word) Tick) (d .core .«rate_controller» .«current_rate») t a words pool)
+    (endAt bytes c ls d t a words pool)
+
+abbrev pub HaltedOn : Bool → List ℕ → StationConfig → List ℕ → Place → ControllerCore → List ℕ → Place → ControllerCore → Type 0
+HaltedOn inflated bytes c ls p k ls′ p′ k′ =
+    (g : Roster) (t : PeerRttTracker) (a : BudgetAllocator) (words pool : List ℕ) → inflated ≡ anyInflated t
+    → haltedEnd bytes c ls′ (deskOf p′ k′ g) t a words pool ≡ endAt bytes c ls (deskOf p k g) t a words pool
 
 -- ---- the end
 

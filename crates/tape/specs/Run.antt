@@ -1,6 +1,6 @@
 -- The run of a tape (document 01, "The tape"): what each item does to a station, the clock and the pool, and which line it prints.
 -- Definitions only.
-use Prim.Native.Nat.{ℕ, _+_, _-_, _*_, _^_, min}
+use Prim.Native.Nat.{ℕ, _+_, _*_, _^_, min}
 use mathlib.Core.Bool.{true, cond}
 use mathlib.Core.List.{List, [], _∷_, _++_}
 use lib.Dec.{ltb, eqb}
@@ -19,8 +19,8 @@ use Rattle.station.specs.Station.{stationConfigOf, newStation, registeredStatio
 use Rattle.station.specs.declared.station.Station.{Station}
 use Rattle.station.specs.declared.station.StationAnswer.{StationAnswer}
 use Rattle.station.specs.declared.station.StationSent.{StationSent}
-use Rattle.tape.specs.Item.{wordsOf, keyAt, bodyAt, Placed, itemsFrom, itemsOf}
-use Rattle.tape.specs.Text.{written, ended, header, fieldsText, updatesText, lineText}
+use Rattle.tape.specs.Item.{wordsOf, keyAt, bodyAt, Placed, itemsOf}
+use Rattle.tape.specs.Text.{header, fieldsText, updatesText, lineText}
 use Rattle.tape.specs.declared.item.Item.{Item}
 use Rattle.tape.specs.declared.item.Item.the-variants.{End, Broken, Advance, Register, Eagain, Tos, Nacks, Rtt, Tick, HandIn, Send, SetRate}
 use Rattle.tape.specs.declared.run.TapeRun.{TapeRun}
@@ -169,17 +169,3 @@ ranTape bytes room = cond (ltb room (roomFor (length bytes))) (runOf bufferTooSh
 unfoldable pub linesLeft : List ℕ → List ℕ → List ℕ
 linesLeft bytes ls =
     cond (ltb (length ls) (roomFor (length bytes))) ls (tapeText bytes ++ drop (length (tapeText bytes)) ls)
-
--- ---- the rest of a run, from word k on
-
-abbrev pub restOf : List ℕ → Player → ℕ → List ℕ
-restOf bytes p k = textOf (linesOf bytes p (itemsFrom (wordsOf (length bytes) - k) bytes k 0))
-
--- what a buffer holds at the end of the run, and where the lines end
-pub record Ending : Type 0 where
-  pub lines : List ℕ
-  pub end : ℕ
-
-unfoldable pub endingOf : List ℕ → List ℕ → ℕ → Player → ℕ → Ending
-endingOf bytes ls at p k =
-    record { lines = written ls at (restOf bytes p k); end = ended (length ls) at (length (restOf bytes p k)) }

@@ -1,14 +1,14 @@
 // The run of a tape on a station of its own: each item is decoded, played on the parts of the station that it touches, and answered by a line.
-ghost use mathlib.Core.Bool.{true, false};
+ghost use mathlib.Core.Bool.{Bool, true, false};
 ghost use mathlib.Core.List.{List};
 ghost use mathlib.Core.Path.{_≡_};
-ghost use Prim.Native.Nat.{ℕ, _≤_};
+ghost use Prim.Native.Nat.{ℕ};
 ghost use lib.Dec.{ltb};
 ghost use lib.ListN.{length};
 ghost use Rattle.tape.specs.Item.{itemAt, stops};
 ghost use Rattle.tape.specs.declared.item.Item.the-variants.{HandIn, Send, Eagain, Nacks, Tos, Tick, Register, Rtt, SetRate};
-ghost use Rattle.tape.specs.Run.{Player, playerOf, tapeSettings, advanced, fieldsWhere, actionFields, endingOf, roomFor, ranTape, linesLeft};
-ghost use Rattle.tape.specs.Desk.{Kept, KeptWhere, KeptAll, Stands, Onward, Further, saidDesk, sharedDesk, sharedLines, isFast, touchesTable, endedWith, newStationWith};
+ghost use Rattle.tape.specs.Run.{Player, playerOf, tapeSettings, advanced, fieldsWhere, actionFields, roomFor, ranTape, linesLeft};
+ghost use Rattle.tape.specs.Desk.{placeOf, deskOf, Stands, Onward, isAdvance, isPaced, isSignal, isSample, Waited, PacedOn, SignalledOn, HaltedOn, SampledOn, RegisteredOn, RatedOn, sharedFor, sharedLines, sharedPlace, endingOf, endedWith, newStationWith};
 ghost use Rattle.tape.specs.Text.{written, ended, fieldsText, lineText};
 use crate::item;
 use crate::item::Item;
@@ -43,37 +43,53 @@ pub struct TapeRun {
     pub length: u64,
 }
 
-// How far a run is: the next word, the next byte of the lines, and the clock.
+// How far a run is: the next word, the next byte of the lines, the clock, and the calls so far.
 pub(crate) struct Place {
     pub(crate) word: usize,
     pub(crate) at: usize,
     pub(crate) clock: u64,
-}
-
-// What most items touch: small, and by value. The tables of writers and peers stand beside it.
-pub(crate) struct Desk {
-    pub(crate) place: Place,
     pub(crate) ledger: Ledger,
-    pub(crate) core: ControllerCore,
-    pub(crate) roster: Roster,
 }
 
-// A desk after an item, or as it was where the item touches a table or stops the tape.
-pub(crate) struct Moved {
-    pub(crate) desk: Desk,
+// A place after an advance, or as it was where there is none.
+pub(crate) struct Skipped {
+    pub(crate) place: Place,
     pub(crate) moved: bool,
 }
 
-// A desk and the writers' table.
-pub(crate) struct Shared {
-    pub(crate) desk: Desk,
+// What an item of the pacers leaves; `moved`: there was one.
+pub(crate) struct Paced {
+    pub(crate) place: Place,
+    pub(crate) roster: Roster,
+    pub(crate) moved: bool,
+}
+
+// What a signal or a tick leaves; `moved`: there was one, and its line is written. A tick that changes the rate has ticked but not moved.
+pub(crate) struct Signalled {
+    pub(crate) place: Place,
+    pub(crate) core: ControllerCore,
+    pub(crate) moved: bool,
+}
+
+// What a peer's sample leaves; `moved`: there was one.
+pub(crate) struct Sampled {
+    pub(crate) place: Place,
+    pub(crate) tracker: PeerRttTracker,
+    pub(crate) moved: bool,
+}
+
+// What a register leaves.
+pub(crate) struct Registered {
+    pub(crate) place: Place,
+    pub(crate) roster: Roster,
     pub(crate) allocator: BudgetAllocator,
 }
 
-// A desk and the tables.
-pub(crate) struct Tabled {
-    pub(crate) desk: Desk,
-    pub(crate) tracker: PeerRttTracker,
+// What a rate setting leaves.
+pub(crate) struct Rated {
+    pub(crate) place: Place,
+    pub(crate) core: ControllerCore,
+    pub(crate) roster: Roster,
     pub(crate) allocator: BudgetAllocator,
 }
 
@@ -128,10 +144,66 @@ fn action_fields(action: SendAction) -> Fields
     }
 }
 
+// The place behind an item that wrote its line.
+fn behind(place: Place, next: usize, at: usize, ledger: Ledger) -> Place
+    ensures { λ r. ⌜ r ≡ placeOf next at (place .clock) ledger ⌝ }
+{
+    let clock = place.clock;
+    Place {
+        word: next,
+        at,
+        clock,
+        ledger,
+    }
+}
+
+// An advance, where one stands.
+fn skip(tape: &[u8], place: Place) -> Skipped
+    ensures { λ r. ⌜ Onward (now (tape .entry)) isAdvance (place .word) (r .place .word) (r .moved) ⌝ }
+    ensures { λ r. ⌜ Waited (now (tape .entry)) place (r .place) ⌝ }
+{
+    let found = item::item_at(tape, place.word);
+    match found {
+        Item::Advance(micros) => {
+            let clock = advance(place.clock, micros);
+            let next = item::word_after(tape, place.word, found);
+            Skipped {
+                place: Place {
+                    word: next,
+                    clock,
+                    ..place
+                },
+                moved: true,
+            }
+        }
+        _ => Skipped {
+            place,
+            moved: false,
+        },
+    }
+}
+
+// All advances that stand in a row.
+fn skip_on(tape: &[u8], from: Place) -> Place
+    ensures { λ r. ⌜ Onward (now (tape .entry)) isAdvance (from .word) (r .word) false ⌝ }
+    ensures { λ r. ⌜ Waited (now (tape .entry)) from r ⌝ }
+{
+    let mut place = from;
+    loop {
+        let after = skip(tape, place);
+        let moved = after.moved;
+        place = after.place;
+        if !moved {
+            return place;
+        }
+    }
+}
+
 // A hand-in of the bytes that stand behind its words.
 fn hand_in(
     tape: &[u8],
-    desk: Desk,
+    place: Place,
+    roster: Roster,
     next: usize,
     config: StationConfig,
     words: &mut [u64; STATION_WORDS],
@@ -140,14 +212,13 @@ fn hand_in(
     pacer: u8,
     class: Priority,
     length: u16,
-) -> Desk
+) -> Paced
     ensures { λ r. ⌜ r .place .word ≡ next ⌝ }
-    ensures { λ r. ⌜ (Stands (now (tape .entry)) desk next (HandIn pacer class length) → Kept (now (tape .entry)) config (now (lines .entry)) desk (now (words .entry)) (now (pool .entry)) (now (lines .exit)) r (now (words .exit)) (now (pool .exit))) ⌝ }
+    ensures { λ r. ⌜ r .moved ≡ true ⌝ }
+    ensures { λ r. ⌜ (Stands (now (tape .entry)) (place .word) next (HandIn pacer class length) → PacedOn (now (tape .entry)) config (now (lines .entry)) place roster (now (words .entry)) (now (pool .entry)) (now (lines .exit)) (r .place) (r .roster) (now (words .exit)) (now (pool .exit))) ⌝ }
 {
-    let place = desk.place;
-    let roster = desk.roster;
     let handed = parts::hand_in(
-        desk.ledger,
+        place.ledger,
         config.pacer(),
         roster.count(),
         roster.pacer(pacer),
@@ -160,37 +231,29 @@ fn hand_in(
         item::body_at(tape, place.word, class, length),
     );
     let at = text::put_line(lines, place.at, place.word, handed.answer, Fields::Nothing);
-    let ledger = handed.ledger;
-    let after = handed.core;
-    let core = desk.core;
-    Desk {
-        place: Place {
-            word: next,
-            at,
-            clock: place.clock,
-        },
-        ledger,
-        core,
-        roster: roster.with_pacer(pacer, after),
+    Paced {
+        place: behind(place, next, at, handed.ledger),
+        roster: roster.with_pacer(pacer, handed.core),
+        moved: true,
     }
 }
 
 fn send(
-    desk: Desk,
+    place: Place,
+    roster: Roster,
     next: usize,
     config: StationConfig,
     words: &mut [u64; STATION_WORDS],
     pool_length: usize,
     lines: &mut [u8],
     pacer: u8,
-) -> Desk
+) -> Paced
     ensures { λ r. ⌜ r .place .word ≡ next ⌝ }
-    ensures { λ r. ⌜ ((bytes : List ℕ) (pool : List ℕ) → Stands bytes desk next (Send pacer) → length pool ≡ «pool_length» → Kept bytes config (now (lines .entry)) desk (now (words .entry)) pool (now (lines .exit)) r (now (words .exit)) pool) ⌝ }
+    ensures { λ r. ⌜ r .moved ≡ true ⌝ }
+    ensures { λ r. ⌜ ((bytes : List ℕ) (pool : List ℕ) → Stands bytes (place .word) next (Send pacer) → length pool ≡ «pool_length» → PacedOn bytes config (now (lines .entry)) place roster (now (words .entry)) pool (now (lines .exit)) (r .place) (r .roster) (now (words .exit)) pool) ⌝ }
 {
-    let place = desk.place;
-    let roster = desk.roster;
     let tried = parts::send(
-        desk.ledger,
+        place.ledger,
         config.pacer(),
         roster.count(),
         roster.pacer(pacer),
@@ -202,121 +265,27 @@ fn send(
     let action = tried.action;
     let fields = fields_where(tried.answer, action_fields(action));
     let at = text::put_line(lines, place.at, place.word, tried.answer, fields);
-    let ledger = tried.ledger;
-    let after = tried.core;
-    let core = desk.core;
-    Desk {
-        place: Place {
-            word: next,
-            at,
-            clock: place.clock,
-        },
-        ledger,
-        core,
-        roster: roster.with_pacer(pacer, after),
-    }
-}
-
-// What a call on the core leaves, and its line.
-fn say(desk: Desk, next: usize, left: CoreLeft, fields: Fields, lines: &mut [u8]) -> Desk
-    ensures { λ r. ⌜ r ≡ saidDesk desk next left (ended (length (now (lines .entry))) (desk .place .at) (length (lineText (desk .place .word) (left .answer) (fieldsText fields)))) ⌝ }
-    ensures { λ _. ⌜ now (lines .exit) ≡ written (now (lines .entry)) (desk .place .at) (lineText (desk .place .word) (left .answer) (fieldsText fields)) ⌝ }
-{
-    let place = desk.place;
-    let at = text::put_line(lines, place.at, place.word, left.answer, fields);
-    let ledger = left.ledger;
-    let core = left.core;
-    let roster = desk.roster;
-    Desk {
-        place: Place {
-            word: next,
-            at,
-            clock: place.clock,
-        },
-        ledger,
-        core,
-        roster,
-    }
-}
-
-fn eagain(desk: Desk, next: usize, config: StationConfig, lines: &mut [u8]) -> Desk
-    ensures { λ r. ⌜ r .place .word ≡ next ⌝ }
-    ensures { λ r. ⌜ ((bytes words pool : List ℕ) → Stands bytes desk next Eagain → Kept bytes config (now (lines .entry)) desk words pool (now (lines .exit)) r words pool) ⌝ }
-{
-    let place = desk.place;
-    let left = parts::on_eagain(desk.ledger, config.controller(), desk.core, place.clock);
-    say(desk, next, left, Fields::Nothing, lines)
-}
-
-fn nacks(desk: Desk, next: usize, config: StationConfig, lines: &mut [u8], count: u32) -> Desk
-    ensures { λ r. ⌜ r .place .word ≡ next ⌝ }
-    ensures { λ r. ⌜ ((bytes words pool : List ℕ) → Stands bytes desk next (Nacks count) → Kept bytes config (now (lines .entry)) desk words pool (now (lines .exit)) r words pool) ⌝ }
-{
-    let place = desk.place;
-    let left = parts::on_nacks(
-        desk.ledger,
-        config.controller(),
-        desk.core,
-        place.clock,
-        count,
-    );
-    say(desk, next, left, Fields::Nothing, lines)
-}
-
-fn tos(desk: Desk, next: usize, config: StationConfig, lines: &mut [u8], byte: u8) -> Desk
-    ensures { λ r. ⌜ r .place .word ≡ next ⌝ }
-    ensures { λ r. ⌜ ((bytes words pool : List ℕ) → Stands bytes desk next (Tos byte) → Kept bytes config (now (lines .entry)) desk words pool (now (lines .exit)) r words pool) ⌝ }
-{
-    let place = desk.place;
-    let left = parts::on_ecn_tos(
-        desk.ledger,
-        config.controller(),
-        desk.core,
-        place.clock,
-        byte,
-    );
-    let fields = fields_where(left.answer, Fields::Flag(left.told));
-    say(desk, next, left, fields, lines)
-}
-
-// A tick that does not change the rate; one that does is left to the tables.
-fn tick(desk: Desk, next: usize, config: StationConfig, inflated: bool, lines: &mut [u8]) -> Moved
-    ensures { λ r. ⌜ (r .moved ≡ true → r .desk .place .word ≡ next) ⌝ }
-    ensures { λ r. ⌜ (r .moved ≡ false → r .desk ≡ desk) ⌝ }
-    ensures { λ r. ⌜ ((bytes words pool : List ℕ) → Stands bytes desk next Tick → KeptWhere inflated bytes config (now (lines .entry)) desk words pool (now (lines .exit)) (r .desk) words pool) ⌝ }
-{
-    let place = desk.place;
-    let left = parts::tick(
-        desk.ledger,
-        config.controller(),
-        desk.core,
-        inflated,
-        place.clock,
-    );
-    if left.told {
-        return Moved { desk, moved: false };
-    }
-    let fields = fields_where(left.answer, Fields::Unchanged);
-    Moved {
-        desk: say(desk, next, left, fields, lines),
+    Paced {
+        place: behind(place, next, at, tried.ledger),
+        roster: roster.with_pacer(pacer, tried.core),
         moved: true,
     }
 }
 
-// An item that touches no table.
-fn fast(
+// An item of the pacers, after the advances before it.
+fn pace(
     tape: &[u8],
-    desk: Desk,
+    from: Place,
+    roster: Roster,
     config: StationConfig,
-    inflated: bool,
     words: &mut [u64; STATION_WORDS],
     pool: &mut [u8],
     lines: &mut [u8],
-) -> Moved
-    ensures { λ r. ⌜ Onward (now (tape .entry)) desk r ⌝ }
-    ensures { λ r. ⌜ KeptWhere inflated (now (tape .entry)) config (now (lines .entry)) desk (now (words .entry)) (now (pool .entry)) (now (lines .exit)) (r .desk) (now (words .exit)) (now (pool .exit)) ⌝ }
+) -> Paced
+    ensures { λ r. ⌜ Onward (now (tape .entry)) isPaced (from .word) (r .place .word) (r .moved) ⌝ }
+    ensures { λ r. ⌜ PacedOn (now (tape .entry)) config (now (lines .entry)) from roster (now (words .entry)) (now (pool .entry)) (now (lines .exit)) (r .place) (r .roster) (now (words .exit)) (now (pool .exit)) ⌝ }
 {
-    let mut place = desk.place;
+    let place = skip_on(tape, from);
     let found = item::item_at(tape, place.word);
     let next = item::word_after(tape, place.word, found);
     match found {
@@ -324,299 +293,383 @@ fn fast(
             pacer,
             class,
             length,
-        } => Moved {
-            desk: hand_in(
-                tape,
-                desk,
-                next,
-                config,
-                words,
-                pool,
-                lines,
-                pacer,
-                class,
-                length,
-            ),
-            moved: true,
+        } => hand_in(
+            tape,
+            place,
+            roster,
+            next,
+            config,
+            words,
+            pool,
+            lines,
+            pacer,
+            class,
+            length,
+        ),
+        Item::Send(pacer) => send(place, roster, next, config, words, pool.len(), lines, pacer),
+        _ => Paced {
+            place,
+            roster,
+            moved: false,
         },
-        Item::Send(pacer) => Moved {
-            desk: send(desk, next, config, words, pool.len(), lines, pacer),
-            moved: true,
-        },
-        Item::Advance(micros) => {
-            place.clock = advance(place.clock, micros);
-            place.word = next;
-            Moved {
-                desk: Desk { place, ..desk },
-                moved: true,
-            }
-        }
-        Item::Eagain => Moved {
-            desk: eagain(desk, next, config, lines),
-            moved: true,
-        },
-        Item::Nacks(count) => Moved {
-            desk: nacks(desk, next, config, lines, count),
-            moved: true,
-        },
-        Item::Tos(byte) => Moved {
-            desk: tos(desk, next, config, lines, byte),
-            moved: true,
-        },
-        Item::Tick => tick(desk, next, config, inflated, lines),
-        _ => Moved { desk, moved: false },
     }
 }
 
-// Items that touch no table, one after the other.
-fn fast_on(
+// Items of the pacers, one after the other.
+fn pace_on(
     tape: &[u8],
-    desk: Desk,
+    from: Place,
+    writers: Roster,
     config: StationConfig,
-    inflated: bool,
     words: &mut [u64; STATION_WORDS],
     pool: &mut [u8],
     lines: &mut [u8],
-) -> Desk
-    ensures { λ r. ⌜ isFast (itemAt (now (tape .entry)) (r .place .word)) ≡ false ⌝ }
-    ensures { λ r. ⌜ desk .place .word ≤ r .place .word ⌝ }
-    ensures { λ r. ⌜ KeptWhere inflated (now (tape .entry)) config (now (lines .entry)) desk (now (words .entry)) (now (pool .entry)) (now (lines .exit)) r (now (words .exit)) (now (pool .exit)) ⌝ }
+) -> Paced
+    ensures { λ r. ⌜ Onward (now (tape .entry)) isPaced (from .word) (r .place .word) false ⌝ }
+    ensures { λ r. ⌜ PacedOn (now (tape .entry)) config (now (lines .entry)) from writers (now (words .entry)) (now (pool .entry)) (now (lines .exit)) (r .place) (r .roster) (now (words .exit)) (now (pool .exit)) ⌝ }
 {
-    let mut state = desk;
+    let mut place = from;
+    let mut roster = writers;
     loop {
-        let after = fast(tape, state, config, inflated, words, pool, lines);
+        let after = pace(tape, place, roster, config, words, pool, lines);
         let moved = after.moved;
-        state = after.desk;
+        place = after.place;
+        roster = after.roster;
         if !moved {
-            return state;
+            return Paced {
+                place,
+                roster,
+                moved,
+            };
+        }
+    }
+}
+
+// What a call on the core leaves, and its line.
+fn say(place: Place, next: usize, left: CoreLeft, fields: Fields, lines: &mut [u8]) -> Signalled
+    ensures { λ r. ⌜ r .place ≡ placeOf next (ended (length (now (lines .entry))) (place .at) (length (lineText (place .word) (left .answer) (fieldsText fields)))) (place .clock) (left .ledger) ⌝ }
+    ensures { λ r. ⌜ r .core ≡ left .core ⌝ }
+    ensures { λ r. ⌜ r .moved ≡ true ⌝ }
+    ensures { λ _. ⌜ now (lines .exit) ≡ written (now (lines .entry)) (place .at) (lineText (place .word) (left .answer) (fieldsText fields)) ⌝ }
+{
+    let at = text::put_line(lines, place.at, place.word, left.answer, fields);
+    let core = left.core;
+    Signalled {
+        place: behind(place, next, at, left.ledger),
+        core,
+        moved: true,
+    }
+}
+
+fn eagain(
+    place: Place,
+    core: ControllerCore,
+    next: usize,
+    config: StationConfig,
+    lines: &mut [u8],
+) -> Signalled
+    ensures { λ r. ⌜ r .place .word ≡ next ⌝ }
+    ensures { λ r. ⌜ r .moved ≡ true ⌝ }
+    ensures { λ r. ⌜ ((bytes : List ℕ) (inflated : Bool) → Stands bytes (place .word) next Eagain → SignalledOn inflated bytes config (now (lines .entry)) place core (now (lines .exit)) (r .place) (r .core)) ⌝ }
+{
+    let left = parts::on_eagain(place.ledger, config.controller(), core, place.clock);
+    say(place, next, left, Fields::Nothing, lines)
+}
+
+fn nacks(
+    place: Place,
+    core: ControllerCore,
+    next: usize,
+    config: StationConfig,
+    lines: &mut [u8],
+    count: u32,
+) -> Signalled
+    ensures { λ r. ⌜ r .place .word ≡ next ⌝ }
+    ensures { λ r. ⌜ r .moved ≡ true ⌝ }
+    ensures { λ r. ⌜ ((bytes : List ℕ) (inflated : Bool) → Stands bytes (place .word) next (Nacks count) → SignalledOn inflated bytes config (now (lines .entry)) place core (now (lines .exit)) (r .place) (r .core)) ⌝ }
+{
+    let left = parts::on_nacks(place.ledger, config.controller(), core, place.clock, count);
+    say(place, next, left, Fields::Nothing, lines)
+}
+
+fn tos(
+    place: Place,
+    core: ControllerCore,
+    next: usize,
+    config: StationConfig,
+    lines: &mut [u8],
+    byte: u8,
+) -> Signalled
+    ensures { λ r. ⌜ r .place .word ≡ next ⌝ }
+    ensures { λ r. ⌜ r .moved ≡ true ⌝ }
+    ensures { λ r. ⌜ ((bytes : List ℕ) (inflated : Bool) → Stands bytes (place .word) next (Tos byte) → SignalledOn inflated bytes config (now (lines .entry)) place core (now (lines .exit)) (r .place) (r .core)) ⌝ }
+{
+    let left = parts::on_ecn_tos(place.ledger, config.controller(), core, place.clock, byte);
+    let fields = fields_where(left.answer, Fields::Flag(left.told));
+    say(place, next, left, fields, lines)
+}
+
+// A tick; where it changes the rate, the sharing out and the line are left to the tables.
+fn tick(
+    place: Place,
+    core: ControllerCore,
+    next: usize,
+    config: StationConfig,
+    inflated: bool,
+    lines: &mut [u8],
+) -> Signalled
+    ensures { λ r. ⌜ (r .moved ≡ true → r .place .word ≡ next) ⌝ }
+    ensures { λ r. ⌜ (r .moved ≡ false → r .place .word ≡ place .word) ⌝ }
+    ensures { λ r. ⌜ ((bytes : List ℕ) → Stands bytes (place .word) next Tick → r .moved ≡ true → SignalledOn inflated bytes config (now (lines .entry)) place core (now (lines .exit)) (r .place) (r .core)) ⌝ }
+    ensures { λ r. ⌜ ((bytes : List ℕ) → Stands bytes (place .word) next Tick → r .moved ≡ false → HaltedOn inflated bytes config (now (lines .entry)) place core (now (lines .exit)) (r .place) (r .core)) ⌝ }
+{
+    let left = parts::tick(
+        place.ledger,
+        config.controller(),
+        core,
+        inflated,
+        place.clock,
+    );
+    if left.told {
+        let ledger = left.ledger;
+        let after = left.core;
+        return Signalled {
+            place: Place { ledger, ..place },
+            core: after,
+            moved: false,
+        };
+    }
+    let fields = fields_where(left.answer, Fields::Unchanged);
+    say(place, next, left, fields, lines)
+}
+
+// A signal or a tick, after the advances before it.
+fn signal(
+    tape: &[u8],
+    from: Place,
+    core: ControllerCore,
+    config: StationConfig,
+    inflated: bool,
+    lines: &mut [u8],
+) -> Signalled
+    ensures { λ r. ⌜ Onward (now (tape .entry)) isSignal (from .word) (r .place .word) (r .moved) ⌝ }
+    ensures { λ r. ⌜ (r .moved ≡ true → SignalledOn inflated (now (tape .entry)) config (now (lines .entry)) from core (now (lines .exit)) (r .place) (r .core)) ⌝ }
+    ensures { λ r. ⌜ (r .moved ≡ false → HaltedOn inflated (now (tape .entry)) config (now (lines .entry)) from core (now (lines .exit)) (r .place) (r .core)) ⌝ }
+{
+    let place = skip_on(tape, from);
+    let found = item::item_at(tape, place.word);
+    let next = item::word_after(tape, place.word, found);
+    match found {
+        Item::Eagain => eagain(place, core, next, config, lines),
+        Item::Nacks(count) => nacks(place, core, next, config, lines, count),
+        Item::Tos(byte) => tos(place, core, next, config, lines, byte),
+        Item::Tick => tick(place, core, next, config, inflated, lines),
+        _ => Signalled {
+            place,
+            core,
+            moved: false,
+        },
+    }
+}
+
+// Signals and ticks one after the other, up to a tick that changes the rate.
+fn signal_on(
+    tape: &[u8],
+    from: Place,
+    start: ControllerCore,
+    config: StationConfig,
+    inflated: bool,
+    lines: &mut [u8],
+) -> Signalled
+    ensures { λ r. ⌜ Onward (now (tape .entry)) isSignal (from .word) (r .place .word) false ⌝ }
+    ensures { λ r. ⌜ HaltedOn inflated (now (tape .entry)) config (now (lines .entry)) from start (now (lines .exit)) (r .place) (r .core) ⌝ }
+{
+    let mut place = from;
+    let mut core = start;
+    loop {
+        let after = signal(tape, place, core, config, inflated, lines);
+        let moved = after.moved;
+        place = after.place;
+        core = after.core;
+        if !moved {
+            return Signalled { place, core, moved };
+        }
+    }
+}
+
+// A peer's sample, after the advances before it.
+fn sample(
+    tape: &[u8],
+    from: Place,
+    tracker: PeerRttTracker,
+    config: StationConfig,
+    lines: &mut [u8],
+) -> Sampled
+    ensures { λ r. ⌜ Onward (now (tape .entry)) isSample (from .word) (r .place .word) (r .moved) ⌝ }
+    ensures { λ r. ⌜ SampledOn (now (tape .entry)) config (now (lines .entry)) from tracker (now (lines .exit)) (r .place) (r .tracker) ⌝ }
+{
+    let place = skip_on(tape, from);
+    let found = item::item_at(tape, place.word);
+    match found {
+        Item::Rtt { peer, bits } => {
+            let left = parts::on_rtt_sample(
+                place.ledger,
+                config.controller(),
+                tracker,
+                place.clock,
+                peer,
+                f32_of_bits(bits),
+            );
+            let next = item::word_after(tape, place.word, found);
+            let at = text::put_line(lines, place.at, place.word, left.answer, Fields::Nothing);
+            let after = left.tracker;
+            Sampled {
+                place: behind(place, next, at, left.ledger),
+                tracker: after,
+                moved: true,
+            }
+        }
+        _ => Sampled {
+            place,
+            tracker,
+            moved: false,
+        },
+    }
+}
+
+// Samples one after the other.
+fn sample_on(
+    tape: &[u8],
+    from: Place,
+    peers: PeerRttTracker,
+    config: StationConfig,
+    lines: &mut [u8],
+) -> Sampled
+    ensures { λ r. ⌜ Onward (now (tape .entry)) isSample (from .word) (r .place .word) false ⌝ }
+    ensures { λ r. ⌜ SampledOn (now (tape .entry)) config (now (lines .entry)) from peers (now (lines .exit)) (r .place) (r .tracker) ⌝ }
+{
+    let mut place = from;
+    let mut tracker = peers;
+    loop {
+        let after = sample(tape, place, tracker, config, lines);
+        let moved = after.moved;
+        place = after.place;
+        tracker = after.tracker;
+        if !moved {
+            return Sampled {
+                place,
+                tracker,
+                moved,
+            };
         }
     }
 }
 
 // A register, and its line.
 fn register(
-    desk: Desk,
+    place: Place,
+    roster: Roster,
+    allocator: BudgetAllocator,
     next: usize,
     config: StationConfig,
-    tracker: PeerRttTracker,
-    allocator: BudgetAllocator,
     lines: &mut [u8],
     class: Priority,
     id: u32,
-) -> Tabled
-    ensures { λ r. ⌜ r .desk .place .word ≡ next ⌝ }
-    ensures { λ r. ⌜ ((bytes : List ℕ) → Stands bytes desk next (Register class id) → KeptAll bytes config (now (lines .entry)) desk tracker allocator (now (lines .exit)) r) ⌝ }
+) -> Registered
+    ensures { λ r. ⌜ r .place .word ≡ next ⌝ }
+    ensures { λ r. ⌜ ((bytes : List ℕ) → Stands bytes (place .word) next (Register class id) → RegisteredOn bytes config (now (lines .entry)) place roster allocator (now (lines .exit)) (r .place) (r .roster) (r .allocator)) ⌝ }
 {
-    let place = desk.place;
     let left = parts::register(
-        desk.ledger,
+        place.ledger,
         config.pacer(),
         allocator,
-        desk.roster,
+        roster,
         place.clock,
         id as u64,
         class,
     );
     let at = text::put_line(lines, place.at, place.word, left.answer, Fields::Nothing);
-    let ledger = left.ledger;
-    let roster = left.roster;
+    let writers = left.roster;
     let after = left.allocator;
-    let core = desk.core;
-    Tabled {
-        desk: Desk {
-            place: Place {
-                word: next,
-                at,
-                clock: place.clock,
-            },
-            ledger,
-            core,
-            roster,
-        },
-        tracker,
+    Registered {
+        place: behind(place, next, at, left.ledger),
+        roster: writers,
         allocator: after,
     }
 }
 
-// A peer's sample, and its line.
-fn sample(
-    desk: Desk,
-    next: usize,
-    config: StationConfig,
-    tracker: PeerRttTracker,
-    allocator: BudgetAllocator,
-    lines: &mut [u8],
-    peer: u32,
-    bits: u32,
-) -> Tabled
-    ensures { λ r. ⌜ r .desk .place .word ≡ next ⌝ }
-    ensures { λ r. ⌜ ((bytes : List ℕ) → Stands bytes desk next (Rtt peer bits) → KeptAll bytes config (now (lines .entry)) desk tracker allocator (now (lines .exit)) r) ⌝ }
-{
-    let place = desk.place;
-    let left = parts::on_rtt_sample(
-        desk.ledger,
-        config.controller(),
-        tracker,
-        place.clock,
-        peer,
-        f32_of_bits(bits),
-    );
-    let at = text::put_line(lines, place.at, place.word, left.answer, Fields::Nothing);
-    let ledger = left.ledger;
-    let after = left.tracker;
-    let core = desk.core;
-    let roster = desk.roster;
-    Tabled {
-        desk: Desk {
-            place: Place {
-                word: next,
-                at,
-                clock: place.clock,
-            },
-            ledger,
-            core,
-            roster,
-        },
-        tracker: after,
-        allocator,
-    }
-}
-
-// A rate shared out, and the line of the updates; a tick or rate setting that gives none has a line of its own.
+// A rate shared out, and the line of the updates.
 fn share(
-    desk: Desk,
+    place: Place,
+    core: ControllerCore,
+    roster: Roster,
+    allocator: BudgetAllocator,
     next: usize,
     config: StationConfig,
-    allocator: BudgetAllocator,
-    left: CoreLeft,
     rate_bps: u32,
     lines: &mut [u8],
-) -> Shared
-    ensures { λ r. ⌜ r ≡ sharedDesk config desk next allocator left «rate_bps» (now (lines .entry)) ⌝ }
-    ensures { λ _. ⌜ now (lines .exit) ≡ sharedLines config desk allocator left «rate_bps» (now (lines .entry)) ⌝ }
+) -> Rated
+    ensures { λ r. ⌜ r .place ≡ sharedPlace config (deskOf place core roster) next allocator «rate_bps» (now (lines .entry)) ⌝ }
+    ensures { λ r. ⌜ r .core ≡ core ⌝ }
+    ensures { λ r. ⌜ r .roster ≡ sharedFor config (deskOf place core roster) allocator «rate_bps» .roster ⌝ }
+    ensures { λ r. ⌜ r .allocator ≡ sharedFor config (deskOf place core roster) allocator «rate_bps» .allocator ⌝ }
+    ensures { λ _. ⌜ now (lines .exit) ≡ sharedLines config (deskOf place core roster) allocator «rate_bps» (now (lines .entry)) ⌝ }
 {
-    let place = desk.place;
-    if left.told {
-        let shared = parts::share_out(config, allocator, desk.roster, place.clock, rate_bps);
-        let after = shared.allocator;
-        let roster = shared.roster;
-        let at = text::put_updates(lines, place.at, place.word, after.table());
-        let ledger = left.ledger;
-        let core = left.core;
-        return Shared {
-            desk: Desk {
-                place: Place {
-                    word: next,
-                    at,
-                    clock: place.clock,
-                },
-                ledger,
-                core,
-                roster,
-            },
-            allocator: after,
-        };
-    }
-    let fields = fields_where(left.answer, Fields::Unchanged);
-    Shared {
-        desk: say(desk, next, left, fields, lines),
-        allocator,
+    let shared = parts::share_out(config, allocator, roster, place.clock, rate_bps);
+    let after = shared.allocator;
+    let writers = shared.roster;
+    let at = text::put_updates(lines, place.at, place.word, after.table());
+    Rated {
+        place: behind(place, next, at, place.ledger),
+        core,
+        roster: writers,
+        allocator: after,
     }
 }
 
-// A tick, its rate shared out where it changed.
-fn tick_all(
-    desk: Desk,
-    next: usize,
-    config: StationConfig,
-    tracker: PeerRttTracker,
-    allocator: BudgetAllocator,
-    lines: &mut [u8],
-) -> Tabled
-    ensures { λ r. ⌜ r .desk .place .word ≡ next ⌝ }
-    ensures { λ r. ⌜ ((bytes : List ℕ) → Stands bytes desk next Tick → KeptAll bytes config (now (lines .entry)) desk tracker allocator (now (lines .exit)) r) ⌝ }
-{
-    let place = desk.place;
-    let left = parts::tick(
-        desk.ledger,
-        config.controller(),
-        desk.core,
-        tracker.any_inflated(),
-        place.clock,
-    );
-    let core = left.core;
-    let shared = share(desk, next, config, allocator, left, core.rate(), lines);
-    let after = shared.desk;
-    let writers = shared.allocator;
-    Tabled {
-        desk: after,
-        tracker,
-        allocator: writers,
-    }
-}
-
-// A rate setting.
+// A rate setting, shared out where it is accepted.
 fn set_rate(
-    desk: Desk,
+    place: Place,
+    core: ControllerCore,
+    roster: Roster,
+    allocator: BudgetAllocator,
     next: usize,
     config: StationConfig,
-    tracker: PeerRttTracker,
-    allocator: BudgetAllocator,
     lines: &mut [u8],
     rate_bps: u32,
-) -> Tabled
-    ensures { λ r. ⌜ r .desk .place .word ≡ next ⌝ }
-    ensures { λ r. ⌜ ((bytes : List ℕ) → Stands bytes desk next (SetRate «rate_bps») → KeptAll bytes config (now (lines .entry)) desk tracker allocator (now (lines .exit)) r) ⌝ }
+) -> Rated
+    ensures { λ r. ⌜ r .place .word ≡ next ⌝ }
+    ensures { λ r. ⌜ ((bytes : List ℕ) → Stands bytes (place .word) next (SetRate «rate_bps») → RatedOn bytes config (now (lines .entry)) place core roster allocator (now (lines .exit)) (r .place) (r .core) (r .roster) (r .allocator)) ⌝ }
 {
-    let place = desk.place;
     let left = parts::set_rate(
-        desk.ledger,
+        place.ledger,
         config.controller(),
-        desk.core,
+        core,
         place.clock,
         rate_bps,
     );
-    let shared = share(desk, next, config, allocator, left, rate_bps, lines);
-    let after = shared.desk;
-    let writers = shared.allocator;
-    Tabled {
-        desk: after,
-        tracker,
-        allocator: writers,
-    }
-}
-
-// An item that touches a table; any other leaves all as it is.
-fn table(
-    tape: &[u8],
-    desk: Desk,
-    config: StationConfig,
-    tracker: PeerRttTracker,
-    allocator: BudgetAllocator,
-    lines: &mut [u8],
-) -> Tabled
-    ensures { λ r. ⌜ (touchesTable (itemAt (now (tape .entry)) (desk .place .word)) ≡ true → Further (now (tape .entry)) desk (r .desk)) ⌝ }
-    ensures { λ r. ⌜ KeptAll (now (tape .entry)) config (now (lines .entry)) desk tracker allocator (now (lines .exit)) r ⌝ }
-{
-    let place = desk.place;
-    let found = item::item_at(tape, place.word);
-    let next = item::word_after(tape, place.word, found);
-    match found {
-        Item::Register { class, id } => {
-            register(desk, next, config, tracker, allocator, lines, class, id)
-        }
-        Item::Rtt { peer, bits } => {
-            sample(desk, next, config, tracker, allocator, lines, peer, bits)
-        }
-        Item::Tick => tick_all(desk, next, config, tracker, allocator, lines),
-        Item::SetRate(rate_bps) => {
-            set_rate(desk, next, config, tracker, allocator, lines, rate_bps)
-        }
-        _ => Tabled {
-            desk,
-            tracker,
+    if left.told {
+        let ledger = left.ledger;
+        return share(
+            Place { ledger, ..place },
+            left.core,
+            roster,
             allocator,
-        },
+            next,
+            config,
+            rate_bps,
+            lines,
+        );
+    }
+    let fields = fields_where(left.answer, Fields::Unchanged);
+    let said = say(place, next, left, fields, lines);
+    let after = said.core;
+    let to = said.place;
+    Rated {
+        place: to,
+        core: after,
+        roster,
+        allocator,
     }
 }
 
@@ -658,29 +711,67 @@ fn play(
 ) -> usize
     ensures { λ r. ⌜ endedWith (now (lines .exit)) r ≡ endingOf (now (tape .entry)) (now (lines .entry)) start (playerOf (newStationWith config (now (words .entry))) 0 (now (pool .entry))) 0 ⌝ }
 {
+    let mut place = Place {
+        word: 0,
+        at: start,
+        clock: 0,
+        ledger: Ledger::new(0),
+    };
+    let mut core = ControllerCore::new(config.controller(), 0);
+    let mut roster = Roster::new();
     let mut tracker = PeerRttTracker::new(100.0);
     let mut allocator = BudgetAllocator::new();
-    let mut desk = Desk {
-        place: Place {
-            word: 0,
-            at: start,
-            clock: 0,
-        },
-        ledger: Ledger::new(0),
-        core: ControllerCore::new(config.controller(), 0),
-        roster: Roster::new(),
-    };
+    let mut inflated = tracker.any_inflated();
     loop {
-        let inflated = tracker.any_inflated();
-        let come = fast_on(tape, desk, config, inflated, words, pool, lines);
-        let place = come.place;
-        if is_last(item::item_at(tape, place.word)) {
-            return finish(tape, place, lines);
+        let paced = pace_on(tape, place, roster, config, words, pool, lines);
+        roster = paced.roster;
+        let signalled = signal_on(tape, paced.place, core, config, inflated, lines);
+        core = signalled.core;
+        place = signalled.place;
+        let found = item::item_at(tape, place.word);
+        let next = item::word_after(tape, place.word, found);
+        match found {
+            Item::Register { class, id } => {
+                let after = register(place, roster, allocator, next, config, lines, class, id);
+                place = after.place;
+                roster = after.roster;
+                allocator = after.allocator;
+            }
+            Item::Rtt { peer: _, bits: _ } => {
+                let after = sample_on(tape, place, tracker, config, lines);
+                place = after.place;
+                tracker = after.tracker;
+                inflated = tracker.any_inflated();
+            }
+            Item::Tick => {
+                let rate = core.rate();
+                let after = share(place, core, roster, allocator, next, config, rate, lines);
+                place = after.place;
+                roster = after.roster;
+                allocator = after.allocator;
+            }
+            Item::SetRate(rate_bps) => {
+                let after = set_rate(
+                    place,
+                    core,
+                    roster,
+                    allocator,
+                    next,
+                    config,
+                    lines,
+                    rate_bps,
+                );
+                place = after.place;
+                core = after.core;
+                roster = after.roster;
+                allocator = after.allocator;
+            }
+            _ => {
+                if is_last(found) {
+                    return finish(tape, place, lines);
+                }
+            }
         }
-        let after = table(tape, come, config, tracker, allocator, lines);
-        desk = after.desk;
-        tracker = after.tracker;
-        allocator = after.allocator;
     }
 }
 

@@ -1,33 +1,44 @@
+use borrow.Author.Needs.{needs}
 use Prim.Native.Nat.{ℕ, _-_}
+use mathlib.Core.Bool.{Bool}
 use mathlib.Core.List.{List}
 use mathlib.Core.Path.{_≡_, refl, ap, sym, _∙_}
 use native.Mathlib.Omega.{arith}
-use borrow.Author.Needs.{needs}
 use lib.ListN.{length}
+use Rattle.signals.specs.RttEstimator.{anyInflated}
 use Rattle.signals.specs.declared.rtt_estimator.PeerRttTracker.{PeerRttTracker}
 use Rattle.control.specs.declared.budget_allocator.BudgetAllocator.{BudgetAllocator}
+use Rattle.control.specs.declared.controller.ControllerCore.{ControllerCore}
+use Rattle.station.specs.declared.roster.Roster.{Roster}
 use Rattle.station.specs.declared.station.StationConfig.{StationConfig}
-use Rattle.tape.specs.Desk.{endAt}
-use Rattle.tape.specs.Item.{stops, wordsOf}
-use Rattle.tape.specs.declared.run.Desk.{Desk}
-use Rattle.tape.proofs.Runs.{start-shell, table-item}
+use Rattle.tape.specs.Item.{wordsOf, stops}
+use Rattle.tape.specs.Desk.{deskOf, endAt, isPaced, isSignal, isSample, isTick}
+use Rattle.tape.specs.declared.run.Place.{Place}
+use Rattle.tape.proofs.Items.{item-inside}
+use Rattle.tape.proofs.Runs.{not-both, stands-at, further-on, apart, paced-item, untabled-item, halted-still, halted-tick, start-shell}
 use Rattle.tape.proofs.run.play.Statement.{statement}
 use Rattle.tape.proofs.run.play.Tie as tie
 
--- from the loop's start on: the buffers keep their lengths, and the run's end stays
-record Playing (tape : List ℕ) (c : StationConfig) (ls : List ℕ) (d : Desk) (t : PeerRttTracker) (a : BudgetAllocator) (words pool ls′ : List ℕ) (d′ : Desk) (t′ : PeerRttTracker) (a′ : BudgetAllocator) (words′ pool′ : List ℕ) : Type 0 where
+-- from the first item to a later one: the buffers keep their lengths, and the run's end stays
+record Going
+    (tape : List ℕ) (c : StationConfig) (ls : List ℕ) (p : Place) (k : ControllerCore) (g : Roster) (t : PeerRttTracker) (a : BudgetAllocator) (words pool : List ℕ)
+    (ls′ : List ℕ) (p′ : Place) (k′ : ControllerCore) (g′ : Roster) (t′ : PeerRttTracker) (a′ : BudgetAllocator) (words′ pool′ : List ℕ) (inflated : Bool) : Type 0 where
   same-lines : length ls′ ≡ length ls
   same-pool : length pool′ ≡ length pool
-  kept : endAt tape c ls′ d′ t′ a′ words′ pool′ ≡ endAt tape c ls d t a words pool
+  told : inflated ≡ anyInflated t′
+  kept : endAt tape c ls′ (deskOf p′ k′ g′) t′ a′ words′ pool′ ≡ endAt tape c ls (deskOf p k g) t a words pool
 
 abbrev Inv-loop : tie.InvT-loop
-Inv-loop tape config start words₀ pool₀ lines₀ tracker₀ allocator₀ desk₀ words pool lines tracker allocator desk = Playing tape config lines₀ desk₀ tracker₀ allocator₀ words₀ pool₀ lines desk tracker allocator words pool
+Inv-loop tape config start words₀ pool₀ lines₀ place₀ core₀ roster₀ tracker₀ allocator₀ inflated₀ words pool lines place core roster tracker allocator inflated = Going tape config lines₀ place₀ core₀ roster₀ tracker₀ allocator₀ words₀ pool₀ lines place core roster tracker allocator words pool inflated
 
 abbrev μ-loop : tie.MeasureT-loop
-μ-loop tape config start words₀ pool₀ lines₀ tracker₀ allocator₀ desk₀ words pool lines tracker allocator desk = wordsOf (length tape) - desk .place .word
+μ-loop tape config start words₀ pool₀ lines₀ place₀ core₀ roster₀ tracker₀ allocator₀ inflated₀ words pool lines place core roster tracker allocator inflated = wordsOf (length tape) - place .word
 
 new-requires : tie.Need-new-requires Inv-loop μ-loop
 new-requires c κs = search needs
+
+controller-requires : tie.Need-controller-requires Inv-loop μ-loop
+controller-requires c κs = search needs
 
 new-requires-2 : tie.Need-new-requires-2 Inv-loop μ-loop
 new-requires-2 c κs = search needs
@@ -35,26 +46,115 @@ new-requires-2 c κs = search needs
 new-requires-3 : tie.Need-new-requires-3 Inv-loop μ-loop
 new-requires-3 c κs = search needs
 
-controller-requires : tie.Need-controller-requires Inv-loop μ-loop
-controller-requires c κs = search needs
-
 new-requires-4 : tie.Need-new-requires-4 Inv-loop μ-loop
 new-requires-4 c κs = search needs
 
 new-requires-5 : tie.Need-new-requires-5 Inv-loop μ-loop
 new-requires-5 c κs = search needs
 
-loop-holds : tie.Need-loop-holds Inv-loop μ-loop
-loop-holds c = record { same-lines = refl; same-pool = refl; kept = refl }
-
 any-inflated-requires : tie.Need-any-inflated-requires Inv-loop μ-loop
 any-inflated-requires c κs = search needs
 
-fast-on-requires : tie.Need-fast-on-requires Inv-loop μ-loop
-fast-on-requires c κs = search needs
+loop-holds : tie.Need-loop-holds Inv-loop μ-loop
+loop-holds c = record { same-lines = refl; same-pool = refl; told = c .any-inflated .ensures; kept = refl }
+
+pace-on-requires : tie.Need-pace-on-requires Inv-loop μ-loop
+pace-on-requires c κs = search needs
+
+signal-on-requires : tie.Need-signal-on-requires Inv-loop μ-loop
+signal-on-requires c κs = search needs
 
 item-at-requires : tie.Need-item-at-requires Inv-loop μ-loop
 item-at-requires c κs = search needs
+
+word-after-requires : tie.Need-word-after-requires Inv-loop μ-loop
+word-after-requires c κs = search needs
+
+enum-known-found : tie.Need-enum-known-found Inv-loop μ-loop
+enum-known-found c = search needs
+
+register-requires : tie.Need-register-requires Inv-loop μ-loop
+register-requires c κs = search needs
+
+loop-less : tie.Need-loop-less Inv-loop μ-loop
+unfolding stops
+loop-less c = let l = c .before .before .before .before .before .before .before .before .before .before .before .before .before .before .before .before .before .before .before .before .before .before .before .before .before .before .before .loop in let paced = c .before .before .before .before .before .before .before .before .before .before .before .before .before .before .before .before .before .before .before .before .before .before .before .pace-on in let signalled = c .before .before .before .before .before .before .before .before .before .before .before .before .before .before .before .before .signal-on in let st = stands-at _ _ _ _ _ (c .before .before .before .before .before .before .before .before .before .before .before .item-at .ensures) (c .before .before .before .before .before .before .before .before .before .before .word-after .ensures) (c .before .before .before .before .before .before .before .before .found .given .1) in
+    let on = further-on _ _ _ _ _ st refl (c .before .before .before .before .before .register .ensures .0) in omega (arith, paced .ensures .0 .ahead, signalled .ensures .0 .ahead, on .0, on .1)
+
+loop-again : tie.Need-loop-again Inv-loop μ-loop
+loop-again c = let l = c .before .before .before .before .before .before .before .before .before .before .before .before .before .before .before .before .before .before .before .before .before .before .before .before .before .before .before .loop in let paced = c .before .before .before .before .before .before .before .before .before .before .before .before .before .before .before .before .before .before .before .before .before .before .before .pace-on in let signalled = c .before .before .before .before .before .before .before .before .before .before .before .before .before .before .before .before .signal-on in let st = stands-at _ _ _ _ _ (c .before .before .before .before .before .before .before .before .before .before .before .item-at .ensures) (c .before .before .before .before .before .before .before .before .before .before .word-after .ensures) (c .before .before .before .before .before .before .before .before .found .given .1) in
+    record {
+      same-lines = c .before .before .before .before .before .register .kept .1 .1 .1 .1 .1 .0 ∙ (signalled .kept .1 .1 .1 .1 .1 .0 ∙ (paced .kept .1 .1 .1 .1 .1 .1 .0 ∙ l .inv .same-lines));
+      same-pool = paced .kept .1 .1 .1 .1 .1 .0 ∙ l .inv .same-pool;
+      told = l .inv .told;
+      kept = c .before .before .before .before .before .register .ensures .1 _ st _ _ _ _ ∙ (sym (halted-still _ _ _ _ _ _ _ _ (sym (ap isTick (c .before .before .before .before .before .before .before .before .before .before .before .item-at .ensures)) ∙ ap isTick (c .before .before .before .before .before .before .before .before .found .given .1))) ∙ (signalled .ensures .1 _ (l .tracker) (l .allocator) _ _ (l .inv .told) ∙ (paced .ensures .1 (l .core) (l .tracker) (l .allocator) ∙ l .inv .kept)));
+    }
+
+enum-told : tie.Need-enum-told Inv-loop μ-loop
+enum-told c = search needs
+
+sample-on-requires : tie.Need-sample-on-requires Inv-loop μ-loop
+sample-on-requires c κs = search needs
+
+any-inflated-requires-2 : tie.Need-any-inflated-requires-2 Inv-loop μ-loop
+any-inflated-requires-2 c κs = search needs
+
+loop-less-2 : tie.Need-loop-less-2 Inv-loop μ-loop
+unfolding stops
+loop-less-2 c = let l = c .before .before .before .before .before .before .before .before .before .before .before .before .before .before .before .before .before .before .before .before .before .before .before .before .before .before .loop in let paced = c .before .before .before .before .before .before .before .before .before .before .before .before .before .before .before .before .before .before .before .before .before .before .pace-on in let signalled = c .before .before .before .before .before .before .before .before .before .before .before .before .before .before .before .signal-on in let on = c .before .before .before .before .before .sample-on .ensures .0 in let found = sym (c .before .before .before .before .before .before .before .before .before .before .item-at .ensures) ∙ c .before .before .before .before .before .before .before .enum-told .given .1 in
+    omega (arith, paced .ensures .0 .ahead, signalled .ensures .0 .ahead, apart _ isSample _ _ (on .ahead) (λ e. not-both (sym (on .halted refl) ∙ (sym e ∙ ap isSample found))), on .inside (omega (arith, item-inside _ _ (ap stops found))))
+
+loop-again-2 : tie.Need-loop-again-2 Inv-loop μ-loop
+loop-again-2 c = let l = c .before .before .before .before .before .before .before .before .before .before .before .before .before .before .before .before .before .before .before .before .before .before .before .before .before .before .loop in let paced = c .before .before .before .before .before .before .before .before .before .before .before .before .before .before .before .before .before .before .before .before .before .before .pace-on in let signalled = c .before .before .before .before .before .before .before .before .before .before .before .before .before .before .before .signal-on in
+    record {
+      same-lines = c .before .before .before .before .before .sample-on .kept .1 .1 .1 .1 .0 ∙ (signalled .kept .1 .1 .1 .1 .1 .0 ∙ (paced .kept .1 .1 .1 .1 .1 .1 .0 ∙ l .inv .same-lines));
+      same-pool = paced .kept .1 .1 .1 .1 .1 .0 ∙ l .inv .same-pool;
+      told = c .any-inflated2 .ensures;
+      kept = c .before .before .before .before .before .sample-on .ensures .1 _ _ _ _ _ ∙ (sym (halted-still _ _ _ _ _ _ _ _ (sym (ap isTick (c .before .before .before .before .before .before .before .before .before .before .item-at .ensures)) ∙ ap isTick (c .before .before .before .before .before .before .before .enum-told .given .1))) ∙ (signalled .ensures .1 _ (l .tracker) (l .allocator) _ _ (l .inv .told) ∙ (paced .ensures .1 (l .core) (l .tracker) (l .allocator) ∙ l .inv .kept)));
+    }
+
+enum-told-2 : tie.Need-enum-told-2 Inv-loop μ-loop
+enum-told-2 c = search needs
+
+rate-requires : tie.Need-rate-requires Inv-loop μ-loop
+rate-requires c κs = search needs
+
+share-requires : tie.Need-share-requires Inv-loop μ-loop
+share-requires c κs = search needs
+
+loop-less-3 : tie.Need-loop-less-3 Inv-loop μ-loop
+unfolding stops
+loop-less-3 c = let l = c .before .before .before .before .before .before .before .before .before .before .before .before .before .before .before .before .before .before .before .before .before .before .before .before .before .before .before .loop in let paced = c .before .before .before .before .before .before .before .before .before .before .before .before .before .before .before .before .before .before .before .before .before .before .before .pace-on in let signalled = c .before .before .before .before .before .before .before .before .before .before .before .before .before .before .before .before .signal-on in let st = stands-at _ _ _ _ _ (c .before .before .before .before .before .before .before .before .before .before .before .item-at .ensures) (c .before .before .before .before .before .before .before .before .before .before .word-after .ensures) (c .before .before .before .before .before .before .before .before .enum-told2 .given .1) in
+    let on = further-on _ _ _ _ _ st refl (ap (λ (p : Place). p .word) (c .before .before .before .before .before .share .ensures .0)) in omega (arith, paced .ensures .0 .ahead, signalled .ensures .0 .ahead, on .0, on .1)
+
+loop-again-3 : tie.Need-loop-again-3 Inv-loop μ-loop
+loop-again-3 c = let l = c .before .before .before .before .before .before .before .before .before .before .before .before .before .before .before .before .before .before .before .before .before .before .before .before .before .before .before .loop in let paced = c .before .before .before .before .before .before .before .before .before .before .before .before .before .before .before .before .before .before .before .before .before .before .before .pace-on in let signalled = c .before .before .before .before .before .before .before .before .before .before .before .before .before .before .before .before .signal-on in let st = stands-at _ _ _ _ _ (c .before .before .before .before .before .before .before .before .before .before .before .item-at .ensures) (c .before .before .before .before .before .before .before .before .before .before .word-after .ensures) (c .before .before .before .before .before .before .before .before .enum-told2 .given .1) in let shared = c .before .before .before .before .before .share .ensures in
+    record {
+      same-lines = c .before .before .before .before .before .share .kept .1 .1 .1 .1 .1 .1 .1 .0 ∙ (signalled .kept .1 .1 .1 .1 .1 .0 ∙ (paced .kept .1 .1 .1 .1 .1 .1 .0 ∙ l .inv .same-lines));
+      same-pool = paced .kept .1 .1 .1 .1 .1 .0 ∙ l .inv .same-pool;
+      told = l .inv .told;
+      kept = rw (shared .0, shared .1 .1 .0, shared .1 .1 .1 .0, shared .1 .1 .1 .1) (halted-tick _ _ _ _ _ _ _ _ _ _ st (c .before .before .before .before .before .before .before .rate .ensures) ∙ (signalled .ensures .1 _ (l .tracker) (l .allocator) _ _ (l .inv .told) ∙ (paced .ensures .1 (l .core) (l .tracker) (l .allocator) ∙ l .inv .kept)));
+    }
+
+enum-known-found-2 : tie.Need-enum-known-found-2 Inv-loop μ-loop
+enum-known-found-2 c = search needs
+
+set-rate-requires : tie.Need-set-rate-requires Inv-loop μ-loop
+set-rate-requires c κs = search needs
+
+loop-less-4 : tie.Need-loop-less-4 Inv-loop μ-loop
+unfolding stops
+loop-less-4 c = let l = c .before .before .before .before .before .before .before .before .before .before .before .before .before .before .before .before .before .before .before .before .before .before .before .before .before .before .before .before .loop in let paced = c .before .before .before .before .before .before .before .before .before .before .before .before .before .before .before .before .before .before .before .before .before .before .before .before .pace-on in let signalled = c .before .before .before .before .before .before .before .before .before .before .before .before .before .before .before .before .before .signal-on in let st = stands-at _ _ _ _ _ (c .before .before .before .before .before .before .before .before .before .before .before .before .item-at .ensures) (c .before .before .before .before .before .before .before .before .before .before .before .word-after .ensures) (c .before .before .before .before .before .before .before .before .before .found2 .given .1) in
+    let on = further-on _ _ _ _ _ st refl (c .before .before .before .before .before .before .set-rate .ensures .0) in omega (arith, paced .ensures .0 .ahead, signalled .ensures .0 .ahead, on .0, on .1)
+
+loop-again-4 : tie.Need-loop-again-4 Inv-loop μ-loop
+loop-again-4 c = let l = c .before .before .before .before .before .before .before .before .before .before .before .before .before .before .before .before .before .before .before .before .before .before .before .before .before .before .before .before .loop in let paced = c .before .before .before .before .before .before .before .before .before .before .before .before .before .before .before .before .before .before .before .before .before .before .before .before .pace-on in let signalled = c .before .before .before .before .before .before .before .before .before .before .before .before .before .before .before .before .before .signal-on in let st = stands-at _ _ _ _ _ (c .before .before .before .before .before .before .before .before .before .before .before .before .item-at .ensures) (c .before .before .before .before .before .before .before .before .before .before .before .word-after .ensures) (c .before .before .before .before .before .before .before .before .before .found2 .given .1) in
+    record {
+      same-lines = c .before .before .before .before .before .before .set-rate .kept .1 .1 .1 .1 .1 .1 .0 ∙ (signalled .kept .1 .1 .1 .1 .1 .0 ∙ (paced .kept .1 .1 .1 .1 .1 .1 .0 ∙ l .inv .same-lines));
+      same-pool = paced .kept .1 .1 .1 .1 .1 .0 ∙ l .inv .same-pool;
+      told = l .inv .told;
+      kept = c .before .before .before .before .before .before .set-rate .ensures .1 _ st _ _ _ ∙ (sym (halted-still _ _ _ _ _ _ _ _ (sym (ap isTick (c .before .before .before .before .before .before .before .before .before .before .before .before .item-at .ensures)) ∙ ap isTick (c .before .before .before .before .before .before .before .before .before .found2 .given .1))) ∙ (signalled .ensures .1 _ (l .tracker) (l .allocator) _ _ (l .inv .told) ∙ (paced .ensures .1 (l .core) (l .tracker) (l .allocator) ∙ l .inv .kept)));
+    }
 
 is-last-requires : tie.Need-is-last-requires Inv-loop μ-loop
 is-last-requires c κs = search needs
@@ -63,32 +163,31 @@ finish-requires : tie.Need-finish-requires Inv-loop μ-loop
 finish-requires c κs = search needs
 
 same-length : tie.Need-same-length Inv-loop μ-loop
-same-length c = c .before .before .before .before .before .before .before .before .before .before .before .before .fast-on .kept .1 .1 .1 .1 .1 .0 ∙ c .before .before .before .before .before .before .before .before .before .before .before .before .before .before .before .before .before .loop .inv .same-pool
+same-length c = let l = c .before .before .before .before .before .before .before .before .before .before .before .before .before .before .before .before .before .before .before .before .before .before .before .before .loop in let paced = c .before .before .before .before .before .before .before .before .before .before .before .before .before .before .before .before .before .before .before .before .pace-on in let signalled = c .before .before .before .before .before .before .before .before .before .before .before .before .before .signal-on in paced .kept .1 .1 .1 .1 .1 .0 ∙ l .inv .same-pool
 
 same-length-2 : tie.Need-same-length-2 Inv-loop μ-loop
-same-length-2 c = c .before .before .finish .kept .1 .1 .0 ∙ (c .before .before .before .before .before .before .before .before .before .before .before .before .fast-on .kept .1 .1 .1 .1 .1 .1 .0 ∙ c .before .before .before .before .before .before .before .before .before .before .before .before .before .before .before .before .before .loop .inv .same-lines)
+same-length-2 c = let l = c .before .before .before .before .before .before .before .before .before .before .before .before .before .before .before .before .before .before .before .before .before .before .before .before .loop in let paced = c .before .before .before .before .before .before .before .before .before .before .before .before .before .before .before .before .before .before .before .before .pace-on in let signalled = c .before .before .before .before .before .before .before .before .before .before .before .before .before .signal-on in c .before .before .finish .kept .1 .1 .0 ∙ (signalled .kept .1 .1 .1 .1 .1 .0 ∙ (paced .kept .1 .1 .1 .1 .1 .1 .0 ∙ l .inv .same-lines))
 
 returns : tie.Need-returns Inv-loop μ-loop
-returns c = let a = c .before .before .before .before .before .before .before .before .before .before .before .before .before .before .before .before .before .before .before .before .before .before .before .before .before .before .before .args in let l = c .before .before .before .before .before .before .before .before .before .before .before .before .before .before .before .before .before .loop in
-    let stopped = sym (ap stops (c .before .before .before .before .before .before .item-at .ensures)) ∙ (sym (c .before .before .before .before .before .is-last .ensures) ∙ c .before .before .before .before .if1 .taken) in
+returns c = let l = c .before .before .before .before .before .before .before .before .before .before .before .before .before .before .before .before .before .before .before .before .before .before .before .before .loop in let paced = c .before .before .before .before .before .before .before .before .before .before .before .before .before .before .before .before .before .before .before .before .pace-on in let signalled = c .before .before .before .before .before .before .before .before .before .before .before .before .before .signal-on in let x = c .before .before .before .before .before .before .before .before .before .before .before .before .before .before .before .before .before .before .before .before .before .before .before .before .before .before .before .before .before .before .before .before .before .before .before .args in
+    let stopped = sym (ap stops (c .before .before .before .before .before .before .before .before .item-at .ensures)) ∙ (sym (c .before .before .before .before .before .is-last .ensures) ∙ c .before .before .before .before .if1 .taken) in
     sym (c .before .before .finish .ensures stopped _)
-    ∙ (c .before .before .before .before .before .before .before .before .before .before .before .before .fast-on .ensures .1 .1 (l .tracker) (l .allocator) (c .before .before .before .before .before .before .before .before .before .before .before .before .before .before .before .before .any-inflated .ensures)
-    ∙ (l .inv .kept ∙ start-shell _ _ (a .config) (a .start) _ _ _ _ _ _ _ _ (c .before .before .before .before .before .before .before .before .before .before .before .before .before .before .before .before .before .before .before .before .before .before .before .new .ensures) (c .before .before .before .before .before .before .before .before .before .before .before .before .before .before .before .before .before .before .before .before .before .before .new2 .ensures) (c .before .before .before .before .before .before .before .before .before .before .before .before .before .before .before .before .before .before .before .before .before .new3 .ensures) (c .before .before .before .before .before .before .before .before .before .before .before .before .before .before .before .before .before .before .before .before .controller .ensures) (c .before .before .before .before .before .before .before .before .before .before .before .before .before .before .before .before .before .before .before .new4 .ensures) (c .before .before .before .before .before .before .before .before .before .before .before .before .before .before .before .before .before .before .new5 .ensures)))
+    ∙ ((sym (halted-still _ _ _ _ _ _ _ _ (sym (ap isTick (c .before .before .before .before .before .before .before .before .item-at .ensures)) ∙ untabled-item (c .before .before .before .before .before .before .before .before .item-at .result) (c .before .before .before .before .before .before .match .keys5))) ∙ (signalled .ensures .1 _ (l .tracker) (l .allocator) _ _ (l .inv .told) ∙ (paced .ensures .1 (l .core) (l .tracker) (l .allocator) ∙ l .inv .kept)))
+    ∙ start-shell _ _ (x .config) (x .start) _ _ _ _ _ _ _ _ (c .before .before .before .before .before .before .before .before .before .before .before .before .before .before .before .before .before .before .before .before .before .before .before .before .before .before .before .new4 .ensures) (c .before .before .before .before .before .before .before .before .before .before .before .before .before .before .before .before .before .before .before .before .before .before .before .before .before .before .new5 .ensures) (c .before .before .before .before .before .before .before .before .before .before .before .before .before .before .before .before .before .before .before .before .before .before .before .before .before .before .before .before .before .before .before .new .ensures) (c .before .before .before .before .before .before .before .before .before .before .before .before .before .before .before .before .before .before .before .before .before .before .before .before .before .before .before .before .before .before .controller .ensures) (c .before .before .before .before .before .before .before .before .before .before .before .before .before .before .before .before .before .before .before .before .before .before .before .before .before .before .before .before .before .new2 .ensures) (c .before .before .before .before .before .before .before .before .before .before .before .before .before .before .before .before .before .before .before .before .before .before .before .before .before .before .before .before .new3 .ensures))
 
-table-requires : tie.Need-table-requires Inv-loop μ-loop
-table-requires c κs = search needs
+loop-less-5 : tie.Need-loop-less-5 Inv-loop μ-loop
+loop-less-5 c = let l = c .before .before .before .before .before .before .before .before .before .before .before .before .before .before .before .before .before .before .before .before .loop in let paced = c .before .before .before .before .before .before .before .before .before .before .before .before .before .before .before .before .pace-on in let signalled = c .before .before .before .before .before .before .before .before .before .signal-on in
+    let at = c .before .before .before .before .item-at in let going = sym (c .before .is-last .ensures) ∙ c .if1 .left in
+    let handed = paced-item (at .result) (c .before .before .match .keys5) going (ap isSignal (at .ensures) ∙ signalled .ensures .0 .halted refl) in
+    omega (arith, paced .ensures .0 .ahead, apart _ isPaced _ _ (signalled .ensures .0 .ahead) (λ e. not-both (sym (paced .ensures .0 .halted refl) ∙ (e ∙ (sym (ap isPaced (at .ensures)) ∙ handed)))), item-inside _ _ (sym (ap stops (at .ensures)) ∙ going))
 
-loop-less : tie.Need-loop-less Inv-loop μ-loop
-loop-less c = let come = c .before .before .before .before .before .before .before .before .before .before .before .before .before .before .before .fast-on .ensures in
-    let touches = table-item _ (sym (ap stops (c .before .before .before .before .before .before .before .before .before .item-at .ensures)) ∙ (sym (c .before .before .before .before .before .before .before .before .is-last .ensures) ∙ c .before .before .before .before .before .before .before .if1 .left)) (come .0) in
-    omega (arith, c .before .before .before .before .before .table .ensures .0 touches .0, c .before .before .before .before .before .table .ensures .0 touches .1, come .1 .0)
-
-loop-again : tie.Need-loop-again Inv-loop μ-loop
-loop-again c = let l = c .before .before .before .before .before .before .before .before .before .before .before .before .before .before .before .before .before .before .before .before .loop in
+loop-again-5 : tie.Need-loop-again-5 Inv-loop μ-loop
+loop-again-5 c = let l = c .before .before .before .before .before .before .before .before .before .before .before .before .before .before .before .before .before .before .before .before .loop in let paced = c .before .before .before .before .before .before .before .before .before .before .before .before .before .before .before .before .pace-on in let signalled = c .before .before .before .before .before .before .before .before .before .signal-on in
     record {
-      same-lines = c .before .before .before .before .before .table .kept .1 .1 .1 .1 .1 .0 ∙ (c .before .before .before .before .before .before .before .before .before .before .before .before .before .before .before .fast-on .kept .1 .1 .1 .1 .1 .1 .0 ∙ l .inv .same-lines);
-      same-pool = c .before .before .before .before .before .before .before .before .before .before .before .before .before .before .before .fast-on .kept .1 .1 .1 .1 .1 .0 ∙ l .inv .same-pool;
-      kept = c .before .before .before .before .before .table .ensures .1 _ _ ∙ (c .before .before .before .before .before .before .before .before .before .before .before .before .before .before .before .fast-on .ensures .1 .1 (l .tracker) (l .allocator) (c .before .before .before .before .before .before .before .before .before .before .before .before .before .before .before .before .before .before .before .any-inflated .ensures) ∙ l .inv .kept);
+      same-lines = signalled .kept .1 .1 .1 .1 .1 .0 ∙ (paced .kept .1 .1 .1 .1 .1 .1 .0 ∙ l .inv .same-lines);
+      same-pool = paced .kept .1 .1 .1 .1 .1 .0 ∙ l .inv .same-pool;
+      told = l .inv .told;
+      kept = (sym (halted-still _ _ _ _ _ _ _ _ (sym (ap isTick (c .before .before .before .before .item-at .ensures)) ∙ untabled-item (c .before .before .before .before .item-at .result) (c .before .before .match .keys5))) ∙ (signalled .ensures .1 _ (l .tracker) (l .allocator) _ _ (l .inv .told) ∙ (paced .ensures .1 (l .core) (l .tracker) (l .allocator) ∙ l .inv .kept)));
     }
 
 pub play-spec : {M : Type 1} → statement M
@@ -98,20 +197,39 @@ play-spec =
     Inv-loop
     μ-loop
     new-requires
+    controller-requires
     new-requires-2
     new-requires-3
-    controller-requires
     new-requires-4
     new-requires-5
-    loop-holds
     any-inflated-requires
-    fast-on-requires
+    loop-holds
+    pace-on-requires
+    signal-on-requires
     item-at-requires
+    word-after-requires
+    enum-known-found
+    register-requires
+    loop-less
+    loop-again
+    enum-told
+    sample-on-requires
+    any-inflated-requires-2
+    loop-less-2
+    loop-again-2
+    enum-told-2
+    rate-requires
+    share-requires
+    loop-less-3
+    loop-again-3
+    enum-known-found-2
+    set-rate-requires
+    loop-less-4
+    loop-again-4
     is-last-requires
     finish-requires
     same-length
     same-length-2
     returns
-    table-requires
-    loop-less
-    loop-again)
+    loop-less-5
+    loop-again-5)

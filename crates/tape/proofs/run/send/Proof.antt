@@ -1,4 +1,5 @@
 use mathlib.Core.Path.{refl}
+use Rattle.tape.specs.Desk.{deskOf}
 use Rattle.tape.proofs.Runs.{send-ends}
 use borrow.Author.Needs.{needs}
 use Rattle.tape.proofs.run.send.Statement.{statement}
@@ -25,6 +26,9 @@ fields-where-requires c κs = search needs
 put-line-requires : tie.Need-put-line-requires
 put-line-requires c κs = search needs
 
+behind-requires : tie.Need-behind-requires
+behind-requires c κs = search needs
+
 with-pacer-requires : tie.Need-with-pacer-requires
 with-pacer-requires c κs = search needs
 
@@ -32,8 +36,8 @@ same-length : tie.Need-same-length
 same-length c = search needs
 
 returns : tie.Need-returns
-returns c = let a = c .before .before .before .before .before .before .before .before .before .before .before .before .before .before .before .before .before .before .args in
-    (refl, λ bytes pool h long t w. rw (c .with-pacer .ensures, c .before .before .before .before .before .before .put-line .ensures .0, c .before .before .before .before .before .before .put-line .ensures .1, c .before .before .before .before .before .before .before .before .fields-where .ensures, c .before .before .before .before .before .before .before .before .before .action-fields .ensures, c .before .before .before .before .before .before .before .before .before .before .send .ensures .0, c .before .before .before .before .before .before .before .before .before .before .send .ensures .1, c .before .before .before .before .before .before .before .before .before .before .before .before .pacer2 .ensures, c .before .before .before .before .before .before .before .before .before .before .before .before .before .count .ensures, c .before .before .before .before .before .before .before .before .before .before .before .before .before .before .pacer .ensures) (send-ends bytes _ (a .config) (a .desk) t w _ pool (a .pacer) (a .next) _ h long))
+returns c = let a = c .before .before .before .before .before .before .before .before .before .before .before .before .before .before .args in
+    rw (c .before .behind .ensures) (refl, (refl, λ bytes pool h long k t w. rw (c .with-pacer .ensures, c .before .before .before .before .put-line .ensures .0, c .before .before .before .before .put-line .ensures .1, c .before .before .before .before .before .before .fields-where .ensures, c .before .before .before .before .before .before .before .action-fields .ensures, c .before .before .before .before .before .before .before .before .send .ensures .0, c .before .before .before .before .before .before .before .before .send .ensures .1, c .before .before .before .before .before .before .before .before .before .before .pacer2 .ensures, c .before .before .before .before .before .before .before .before .before .before .before .count .ensures, c .before .before .before .before .before .before .before .before .before .before .before .before .pacer .ensures) (send-ends bytes _ (a .config) (deskOf (a .place) k (a .roster)) t w _ pool (a .pacer) (a .next) _ h long)))
 
 pub send-spec : {M : Type 1} → statement M
 send-spec =
@@ -46,6 +50,7 @@ send-spec =
     action-fields-requires
     fields-where-requires
     put-line-requires
+    behind-requires
     with-pacer-requires
     same-length
     returns)

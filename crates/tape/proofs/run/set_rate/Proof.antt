@@ -1,4 +1,6 @@
-use Rattle.tape.proofs.Runs.{set-rate-ends, shared-word}
+use mathlib.Core.Path.{refl}
+use Rattle.tape.specs.Desk.{deskOf}
+use Rattle.tape.proofs.Runs.{set-rate-ends, set-rate-told-ends}
 use borrow.Author.Needs.{needs}
 use Rattle.tape.proofs.run.set_rate.Statement.{statement}
 use Rattle.tape.proofs.run.set_rate.Tie as tie
@@ -16,9 +18,32 @@ same-length : tie.Need-same-length
 same-length c = search needs
 
 returns : tie.Need-returns
-returns c = let a = c .before .before .before .before .before .before .before .before .before .before .args in
-    rw (c .before .before .before .before .share .ensures .0, c .before .before .before .before .share .ensures .1) (shared-word _ _ _ _ _ _ _, λ bytes h words pool. set-rate-ends bytes _ (a .config) (a .desk) (a .tracker) (a .allocator) words pool (a .next) (a .rate-bps) _ h (rw (c .before .before .before .before .before .before .set-rate .ensures, c .before .before .before .before .before .before .before .controller .ensures)))
+returns c = let a = c .before .before .before .before .before .before .before .before .before .args in let shared = c .before .before .share .ensures in
+    rw (shared .0, shared .1 .0, shared .1 .1 .0, shared .1 .1 .1 .0, shared .1 .1 .1 .1) (refl, λ bytes h t words pool. set-rate-told-ends bytes _ (a .config) (deskOf (a .place) (a .core) (a .roster)) t (a .allocator) words pool (a .next) (a .rate-bps) (c .before .before .before .before .before .before .set-rate .result) h (rw (c .before .before .before .before .before .before .set-rate .ensures, c .before .before .before .before .before .before .before .controller .ensures)) (c .before .before .before .before .before .if1 .taken))
+
+fields-where-requires : tie.Need-fields-where-requires
+fields-where-requires c κs = search needs
+
+say-requires : tie.Need-say-requires
+say-requires c κs = search needs
+
+same-length-2 : tie.Need-same-length-2
+same-length-2 c = search needs
+
+returns-2 : tie.Need-returns-2
+returns-2 c = let a = c .before .before .before .before .before .before .before .before .before .before .before .args in let said = c .before .before .before .before .say .ensures in
+    rw (said .0, said .1 .0, said .1 .1 .1) (refl, λ bytes h t words pool. set-rate-ends bytes _ (a .config) (deskOf (a .place) (a .core) (a .roster)) t (a .allocator) words pool (a .next) (a .rate-bps) (c .before .before .before .before .before .before .before .before .set-rate .result) _ h (rw (c .before .before .before .before .before .before .before .before .set-rate .ensures, c .before .before .before .before .before .before .before .before .before .controller .ensures)) (c .before .before .before .before .before .before .before .if1 .left) (c .before .before .before .before .before .before .fields-where .ensures))
 
 pub set-rate-spec : {M : Type 1} → statement M
 set-rate-spec =
-    tie.close (tie.spec controller-requires set-rate-requires share-requires same-length returns)
+    tie.close
+    (tie.spec
+    controller-requires
+    set-rate-requires
+    share-requires
+    same-length
+    returns
+    fields-where-requires
+    say-requires
+    same-length-2
+    returns-2)

@@ -1,7 +1,4 @@
-use Rattle.tape.proofs.Runs.{sharedWith}
-use Rattle.tape.specs.declared.run.Desk.{Desk}
-use mathlib.Core.Path.{refl, ap}
-use Rattle.tape.specs.Desk.{sharedDesk, sharedLines}
+use mathlib.Core.Path.{refl}
 use borrow.Author.Needs.{needs}
 use Rattle.tape.proofs.run.share.Statement.{statement}
 use Rattle.tape.proofs.run.share.Tie as tie
@@ -15,25 +12,14 @@ table-requires c κs = search needs
 put-updates-requires : tie.Need-put-updates-requires
 put-updates-requires c κs = search needs
 
+behind-requires : tie.Need-behind-requires
+behind-requires c κs = search needs
+
 same-length : tie.Need-same-length
 same-length c = search needs
 
 returns : tie.Need-returns
-unfolding sharedDesk sharedLines
-returns c = rw (c .before .before .before .before .before .before .before .before .before .before .if1 .taken, ← c .before .before .before .before .before .before .before .before .before .share-out .ensures, ← c .before .before .before .before .before .table .ensures, ← c .before .before .before .before .put-updates .ensures .1) (refl, c .before .before .before .before .put-updates .ensures .0)
-
-fields-where-requires : tie.Need-fields-where-requires
-fields-where-requires c κs = search needs
-
-say-requires : tie.Need-say-requires
-say-requires c κs = search needs
-
-same-length-2 : tie.Need-same-length-2
-same-length-2 c = search needs
-
-returns-2 : tie.Need-returns-2
-unfolding sharedDesk sharedLines
-returns-2 c = rw (c .before .before .before .before .before .if1 .left, ← c .before .before .before .before .fields-where .ensures) (ap (λ (x : Desk). sharedWith x (c .before .before .before .before .before .before .before .before .args .allocator)) (c .before .before .say .ensures .0), c .before .before .say .ensures .1)
+returns c = rw (c .behind .ensures, c .before .before .before .put-updates .ensures .0, c .before .before .before .put-updates .ensures .1, c .before .before .before .before .table .ensures, c .before .before .before .before .before .before .before .before .share-out .ensures) (refl, (refl, (refl, (refl, refl))))
 
 pub share-spec : {M : Type 1} → statement M
 share-spec =
@@ -42,9 +28,6 @@ share-spec =
     share-out-requires
     table-requires
     put-updates-requires
+    behind-requires
     same-length
-    returns
-    fields-where-requires
-    say-requires
-    same-length-2
-    returns-2)
+    returns)

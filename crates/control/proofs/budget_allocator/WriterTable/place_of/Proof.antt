@@ -6,8 +6,8 @@ use borrow.Author.Count.{below-none, below-more}
 use borrow.Author.Needs.{needs}
 use borrow.Author.Tests.{eq-eqb, ne-eqb}
 use lib.Dec.{eqb}
-use Rattle.numeric.proofs.Search.{first-none, first-is}
-use Rattle.control.specs.BudgetAllocator.{placeOf, takenOf, rowAt}
+use Rattle.control.specs.BudgetAllocator.{takenOf, rowAt}
+use Rattle.control.proofs.Rows.{place-is, place-none}
 use Rattle.control.proofs.budget_allocator.WriterTable.place_of.Statement.{statement}
 use Rattle.control.proofs.budget_allocator.WriterTable.place_of.Tie as tie
 
@@ -39,12 +39,10 @@ loop-again : tie.Need-loop-again Inv-loop μ-loop
 loop-again c = (omega (arith, c .before .before .before .before .before .taken .ensures), below-more _ _ (c .before .before .before .before .loop .inv .1) (ne-eqb _ _ (c .if2 .left)))
 
 returns : tie.Need-returns Inv-loop μ-loop
-unfolding placeOf
-returns c = c .before .before .taken .ensures ∙ sym (first-none _ _ (λ j l. c .before .loop .inv .1 j (omega (arith, c .before .before .taken .ensures))))
+returns c = c .before .before .taken .ensures ∙ sym (place-none _ _ (λ j l. c .before .loop .inv .1 j (omega (arith, c .before .before .taken .ensures))))
 
 returns-2 : tie.Need-returns-2 Inv-loop μ-loop
-unfolding placeOf
-returns-2 c = let l = c .before .before .before .before .loop in sym (first-is _ _ (l .k) (omega (arith, c .before .before .before .before .before .taken .ensures)) (l .inv .1) (eq-eqb _ _ (c .if2 .taken)))
+returns-2 c = let l = c .before .before .before .before .loop in sym (place-is _ _ (l .k) (omega (arith, c .before .before .before .before .before .taken .ensures)) (l .inv .1) (eq-eqb _ _ (c .if2 .taken)))
 
 pub place-of-spec : {M : Type 1} → statement M
 place-of-spec =
