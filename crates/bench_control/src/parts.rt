@@ -49,7 +49,8 @@ pub fn run(list: &[u64], other: bool) -> u64 {
             allocator = allocator.reallocate(config.allocation, call::amount_of(word));
             sum = call::mix_updates(sum, allocator.table());
         } else if call::kind_of(word) == call::SAMPLE {
-            tracker = tracker.update(time, call::number_of(word), call::sample_of(word));
+            let entered = tracker.enter(time, call::number_of(word), call::sample_of(word));
+            tracker = entered.tracker;
         } else if call::kind_of(word) == call::SHOW {
             sum = left::mix_estimator(sum, tracker.estimator_at(call::number_of(word) as usize));
         } else if call::kind_of(word) == call::REGISTER {
