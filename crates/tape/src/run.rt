@@ -85,7 +85,7 @@ pub(crate) struct Registered {
     pub(crate) allocator: BudgetAllocator,
 }
 
-// What a rate setting leaves.
+// What a rate that is set or shared out leaves.
 pub(crate) struct Rated {
     pub(crate) place: Place,
     pub(crate) core: ControllerCore,
