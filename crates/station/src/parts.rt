@@ -242,12 +242,12 @@ pub fn tick(
         };
     }
     let ticked = core.tick(config, time, inflated);
-    let after = ticked.core;
+    let core = ticked.core;
     CoreLeft {
         answer: 0,
         told: ticked.changed,
         ledger: ledger.moved(time),
-        core: after,
+        core,
     }
 }
 
