@@ -12,6 +12,8 @@ const RTT_UPDATE: u64 = 65;
 
 const RTT_CALLS: u64 = 66;
 
+const RTT_UPDATE_LENT: u64 = 67;
+
 // The estimator that an operation leaves, and its line.
 pub(crate) struct RttPlayed {
     pub(crate) alone: RttEstimatorAlone,
@@ -25,6 +27,7 @@ pub(crate) fn play(alone: RttEstimatorAlone, r: Record) -> RttPlayed {
         RTT_NEW => answered(line, RttEstimatorAlone::new(f32_of(r.a))),
         RTT_UPDATE => answered(line, alone.update(r.a, f32_of(r.b))),
         RTT_CALLS => shown(line, 0, alone.resumed(r.a)),
+        RTT_UPDATE_LENT => answered(line, alone.update_lent(r.a, f32_of(r.b))),
         _ => RttPlayed { alone, line },
     }
 }

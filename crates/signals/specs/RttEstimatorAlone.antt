@@ -49,9 +49,12 @@ newAlone x =
 abbrev pub resumedAlone : RttEstimatorAlone → ℕ → RttEstimatorAlone
 resumedAlone a calls = aloneOf (resumed (a .ledger) calls) (a .estimator)
 
+-- a sample is answered where e is what the step gives
+abbrev pub answeredBy : RttEstimatorAlone → ℕ → Float → RttEstimator → RttAnswer
+answeredBy a time x e = leftBy (answerOf (sampleChecks (a .ledger) time x)) (aloneOf (moved (a .ledger) time) e) a
+
 unfoldable pub updatedAlone : RttEstimatorAlone → ℕ → Float → RttAnswer
-updatedAlone a time x =
-    leftBy (answerOf (sampleChecks (a .ledger) time x)) (aloneOf (moved (a .ledger) time) (updated (a .estimator) time x)) a
+updatedAlone a time x = answeredBy a time x (updated (a .estimator) time x)
 
 -- ---- up to 64 peers
 

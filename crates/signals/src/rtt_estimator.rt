@@ -2,7 +2,7 @@
 ghost use mathlib.Core.Path.{_≡_};
 ghost use Rattle.config.specs.Refusal.{answerOf};
 ghost use Rattle.signals.specs.RttEstimator.{lesserOf, newEstimator, updated, inflated, rtoOf, placeOf, knownOf, newTracker, trackerUpdated, fullFor, anyInflated, idAt, shownAt};
-ghost use Rattle.signals.specs.RttEstimatorAlone.{sampleOut, sampleChecks, peerChecks, newAlone, resumedAlone, updatedAlone, newTrackerAlone, resumedTracker, trackerUpdatedAlone};
+ghost use Rattle.signals.specs.RttEstimatorAlone.{sampleOut, sampleChecks, peerChecks, newAlone, resumedAlone, answeredBy, updatedAlone, newTrackerAlone, resumedTracker, trackerUpdatedAlone};
 use config::ledger::Ledger;
 use config::moment::Moment;
 use config::refusal;
@@ -62,6 +62,21 @@ impl RttEstimator {
             samples: numeric::integer::increment(self.samples),
             last_sample: Moment::At(time),
         }
+    }
+
+    // The same on an estimator that is lent: what lies behind the reference is changed in place.
+    pub fn update_in_place(&mut self, time: u64, sample_ms: f32)
+        ensures { λ _. ⌜ now (self .exit) ≡ updated (now (self .entry)) time «sample_ms» ⌝ }
+    {
+        *self = (*self).update(time, sample_ms);
+    }
+
+    // The same by way of the lent form: the estimator is lent for the call, and what it then is comes back.
+    pub fn update_lent(mut self, time: u64, sample_ms: f32) -> RttEstimator
+        ensures { λ r. ⌜ r ≡ updated self time «sample_ms» ⌝ }
+    {
+        self.update_in_place(time, sample_ms);
+        self
     }
 
     // Whether the average is above twice the least sample.
@@ -349,6 +364,22 @@ impl RttEstimatorAlone {
     pub fn update(self, time: u64, sample_ms: f32) -> RttAnswer
         ensures { λ r. ⌜ r ≡ updatedAlone self time «sample_ms» ⌝ }
     {
+        let estimator = self.estimator.update(time, sample_ms);
+        self.answered_by(time, sample_ms, estimator)
+    }
+
+    // The same call by way of an estimator that is lent.
+    pub fn update_lent(self, time: u64, sample_ms: f32) -> RttAnswer
+        ensures { λ r. ⌜ r ≡ updatedAlone self time «sample_ms» ⌝ }
+    {
+        let estimator = self.estimator.update_lent(time, sample_ms);
+        self.answered_by(time, sample_ms, estimator)
+    }
+
+    // An accepted sample leaves the updated estimator; the step is pure, so nothing is lost where the sample is turned down.
+    fn answered_by(self, time: u64, sample_ms: f32, estimator: RttEstimator) -> RttAnswer
+        ensures { λ r. ⌜ r ≡ answeredBy self time «sample_ms» estimator ⌝ }
+    {
         let answer = check_sample(self.ledger, time, sample_ms);
         if answer != 0 {
             return RttAnswer {
@@ -360,7 +391,7 @@ impl RttEstimatorAlone {
             answer: 0,
             alone: RttEstimatorAlone {
                 ledger: self.ledger.moved(time),
-                estimator: self.estimator.update(time, sample_ms),
+                estimator,
             },
         }
     }

@@ -23,6 +23,7 @@ pub const ECN_CALLS: u64 = 51;
 pub const RTT_NEW: u64 = 64;
 pub const RTT_UPDATE: u64 = 65;
 pub const RTT_CALLS: u64 = 66;
+pub const RTT_UPDATE_LENT: u64 = 67;
 
 pub const PEERS_NEW: u64 = 80;
 pub const PEERS_UPDATE: u64 = 81;

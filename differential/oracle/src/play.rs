@@ -54,7 +54,7 @@ impl Player {
             16..=25 => numeric::play(record, lines),
             32..=34 => self.config.play(record, lines),
             48..=51 => self.ecn.play(record, lines),
-            64..=66 => self.rtt.play(record, lines),
+            64..=67 => self.rtt.play(record, lines),
             80..=83 => self.peers.play(record, lines),
             96..=103 => self.bucket.play(record, lines),
             112..=119 => self.bytes.play(record, lines),

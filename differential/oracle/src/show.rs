@@ -45,6 +45,7 @@ pub fn text(record: &Record) -> String {
         ECN_CALLS => format!("the ECN processor's call count becomes {a}"),
         RTT_NEW => format!("a new RTT estimator, default {}", f32_text(a)),
         RTT_UPDATE => format!("update at time {a} with sample {}", f32_text(b)),
+        RTT_UPDATE_LENT => format!("update at time {a} with sample {}, lent", f32_text(b)),
         RTT_CALLS => format!("the RTT estimator's call count becomes {a}"),
         PEERS_NEW => format!("a new tracker of peers, default {}", f32_text(a)),
         PEERS_UPDATE => format!(

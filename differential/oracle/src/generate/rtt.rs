@@ -37,26 +37,33 @@ pub fn refused_samples() -> [u64; 10] {
     ]
 }
 
+/// The same cases by value and on an estimator that is lent.
 pub fn boundary(script: &mut Script) {
-    // RTT 100, 200: average 112.5, variance 62.5, rto 362.5
-    script.call(RTT_NEW, &[bits(100.0)]);
-    script.call(RTT_UPDATE, &[0, bits(100.0)]);
-    script.call(RTT_UPDATE, &[1, bits(200.0)]);
-    for sample in edge_samples() {
-        script.call(RTT_UPDATE, &[1, sample]);
+    for update in [RTT_UPDATE, RTT_UPDATE_LENT] {
+        cases(script, update);
     }
-    for sample in refused_samples() {
-        script.call(RTT_UPDATE, &[2, sample]);
-    }
-    times(script);
-    order_of_numbers(script);
-    at_limit(script);
-    news(script);
-    inflation(script);
-    gradual_underflow(script);
 }
 
-fn times(script: &mut Script) {
+fn cases(script: &mut Script, update: u64) {
+    // RTT 100, 200: average 112.5, variance 62.5, rto 362.5
+    script.call(RTT_NEW, &[bits(100.0)]);
+    script.call(update, &[0, bits(100.0)]);
+    script.call(update, &[1, bits(200.0)]);
+    for sample in edge_samples() {
+        script.call(update, &[1, sample]);
+    }
+    for sample in refused_samples() {
+        script.call(update, &[2, sample]);
+    }
+    times(script, update);
+    order_of_numbers(script, update);
+    at_limit(script, update);
+    news(script, update);
+    inflation(script, update);
+    gradual_underflow(script, update);
+}
+
+fn times(script: &mut Script, update: u64) {
     let sample = bits(50.0);
     for time in [
         1,
@@ -68,65 +75,65 @@ fn times(script: &mut Script) {
         u64::MAX,
         1 << 63,
     ] {
-        script.call(RTT_UPDATE, &[time, sample]);
+        script.call(update, &[time, sample]);
     }
     for time in [TIME_LIMIT, TIME_LIMIT, TIME_LIMIT - 1, TIME_LIMIT + 1] {
-        script.call(RTT_UPDATE, &[time, sample]);
+        script.call(update, &[time, sample]);
     }
 }
 
 /// 4 before 7 before 17 before 11.
-fn order_of_numbers(script: &mut Script) {
+fn order_of_numbers(script: &mut Script, update: u64) {
     script.call(RTT_NEW, &[bits(1.0)]);
-    script.call(RTT_UPDATE, &[10, bits(1.0)]);
-    script.call(RTT_UPDATE, &[TIME_LIMIT + 1, u64::from(NAN)]);
-    script.call(RTT_UPDATE, &[9, u64::from(NAN)]);
+    script.call(update, &[10, bits(1.0)]);
+    script.call(update, &[TIME_LIMIT + 1, u64::from(NAN)]);
+    script.call(update, &[9, u64::from(NAN)]);
     script.call(RTT_CALLS, &[CALL_LIMIT]);
-    script.call(RTT_UPDATE, &[9, u64::from(NAN)]);
-    script.call(RTT_UPDATE, &[TIME_LIMIT + 1, bits(1.0)]);
-    script.call(RTT_UPDATE, &[9, bits(1.0)]);
-    script.call(RTT_UPDATE, &[11, bits(1.0)]);
+    script.call(update, &[9, u64::from(NAN)]);
+    script.call(update, &[TIME_LIMIT + 1, bits(1.0)]);
+    script.call(update, &[9, bits(1.0)]);
+    script.call(update, &[11, bits(1.0)]);
 }
 
-fn at_limit(script: &mut Script) {
+fn at_limit(script: &mut Script, update: u64) {
     for calls in [CALL_LIMIT - 2, CALL_LIMIT + 1, u64::MAX, CALL_LIMIT - 1] {
         script.call(RTT_CALLS, &[calls]);
         for time in [12, 13, 14] {
-            script.call(RTT_UPDATE, &[time, bits(3.0)]);
+            script.call(update, &[time, bits(3.0)]);
         }
     }
     script.call(RTT_CALLS, &[0]);
-    script.call(RTT_UPDATE, &[20, bits(3.0)]);
+    script.call(update, &[20, bits(3.0)]);
 }
 
-fn news(script: &mut Script) {
+fn news(script: &mut Script, update: u64) {
     for default in edge_samples().into_iter().chain(refused_samples()) {
         script.call(RTT_NEW, &[default]);
     }
     // the zero estimator goes on
-    script.call(RTT_UPDATE, &[5, bits(0.25)]);
-    script.call(RTT_UPDATE, &[6, bits(0.5)]);
+    script.call(update, &[5, bits(0.25)]);
+    script.call(update, &[6, bits(0.5)]);
     script.call(RTT_NEW, &[(1 << 32) | bits(7.0)]);
-    script.call(RTT_UPDATE, &[5, (3 << 32) | bits(7.0)]);
+    script.call(update, &[5, (3 << 32) | bits(7.0)]);
 }
 
 /// Above twice the least; just twice is not inflated.
-fn inflation(script: &mut Script) {
+fn inflation(script: &mut Script, update: u64) {
     script.call(RTT_NEW, &[bits(100.0)]);
     for sample in [10.0, 90.0, 10.0, 1000.0, 20.0, 5.0, 0.0, 0.5] {
-        script.call(RTT_UPDATE, &[7, bits(sample)]);
+        script.call(update, &[7, bits(sample)]);
     }
     script.call(RTT_NEW, &[bits(100.0)]);
-    script.call(RTT_UPDATE, &[7, bits(1.0)]);
-    script.call(RTT_UPDATE, &[7, bits(9.0)]);
-    script.call(RTT_UPDATE, &[7, bits(9.0)]);
+    script.call(update, &[7, bits(1.0)]);
+    script.call(update, &[7, bits(9.0)]);
+    script.call(update, &[7, bits(9.0)]);
 }
 
 /// Subnormal averages: an eighth of the difference is rounded before it is added.
-fn gradual_underflow(script: &mut Script) {
+fn gradual_underflow(script: &mut Script, update: u64) {
     script.call(RTT_NEW, &[bits(100.0)]);
     for sample in [101, 105, 90, 1, 0, 13] {
-        script.call(RTT_UPDATE, &[7, sample]);
+        script.call(update, &[7, sample]);
     }
 }
 
@@ -200,7 +207,8 @@ pub fn make(script: &mut Script, random: &mut Random, operation: u64, samples: &
 
 fn call(script: &mut Script, random: &mut Random, times: &mut Times, samples: &mut Samples) {
     let (time, sample) = time_and_sample(random, times, samples);
-    script.call(RTT_UPDATE, &[time, sample]);
+    let update = random.pick(&[RTT_UPDATE, RTT_UPDATE_LENT]);
+    script.call(update, &[time, sample]);
 }
 
 /// Arguments that are mostly accepted; one in 25 is refused, by one number or two.

@@ -31,7 +31,8 @@ impl Rtt {
         let [a, b, ..] = record.arguments;
         let answer = match record.operation {
             RTT_NEW => self.make(f32_of(a)),
-            RTT_UPDATE => self.update(a, f32_of(b)),
+            // the Rust's one update, which takes &mut self
+            RTT_UPDATE | RTT_UPDATE_LENT => self.update(a, f32_of(b)),
             _ => {
                 self.ledger.calls = a;
                 refusal::ACCEPTED
