@@ -1,10 +1,10 @@
 // A call packed into a word, and the checksum over what calls answer.
+// A word has, from its low bits on: 4 bits for the kind, 4 for the pacer, 4 for the class, 16 for the length, 16 for the
+// key and 20 for the nanoseconds by which the call is later than the one before it.
 use config::config::Priority;
 use pacing::coalescing::InstanceKey;
 use pacing::writer_pacer::SendAction;
 
-// A word has, from its low bits on: 4 bits for the kind, 4 for the pacer, 4 for the class, 16 for the length, 16 for the
-// key and 20 for the nanoseconds by which the call is later than the one before it.
 // Whether the call hands a record in; otherwise it asks what to send.
 pub fn is_hand_in(word: u64) -> bool {
     word % 16 == 0
@@ -39,7 +39,7 @@ pub fn key_of(word: u64) -> InstanceKey {
 
 // The time of the call, after the one before it.
 pub fn time_of(word: u64, before: u64) -> u64 {
-    numeric::integer::bounded_add(before, word / 17592186044416, 18446744073709551615)
+    numeric::integer::saturating_add(before, word / 17592186044416)
 }
 
 // Where the record of call k begins in the bytes, so that records of one length differ.

@@ -69,7 +69,7 @@ pub fn factor_of(word: u64) -> f32 {
 
 // The time of the call, after the one before it.
 pub fn time_of(word: u64, before: u64) -> u64 {
-    numeric::integer::bounded_add(before, word / 1099511627776 * 16, 18446744073709551615)
+    numeric::integer::saturating_add(before, word / 1099511627776 * 16)
 }
 
 // The defaults, or other settings, with marks looked at; two, so that no setting is a constant to the compiler.

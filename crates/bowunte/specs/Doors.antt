@@ -1,10 +1,11 @@
 -- The three C functions (document 01, "Host"): their answers, and what each leaves of the lent slices. Definitions only.
 use Prim.Native.Nat.{ℕ, _/_, _%_}
-use mathlib.Core.Bool.{Bool, true, false, cond}
+use mathlib.Core.Bool.{Bool, true, cond}
 use mathlib.Core.List.{List, [], _∷_, _++_}
 use lib.Dec.{ltb, eqb}
-use lib.Ieee.{Float, binary32, ofBits, lt, le}
+use lib.Ieee.{Float}
 use lib.ListN.{length, drop}
+use Rattle.config.specs.Config.{factorOut}
 use Rattle.config.specs.Refusal.{Check, when, answerOf, settingsBeyond, rateBeyond, bufferTooShort}
 use Rattle.tape.specs.Run.{roomFor, linesLeft}
 
@@ -39,11 +40,6 @@ resultCheck room = when bufferTooShort (ltb room 8)
 
 unfoldable pub hashAnswer : ℕ → ℕ
 hashAnswer room = answerOf (resultCheck room ∷ [])
-
--- "a factor outside (0, 1], or NaN, is 2"; 0x3f800000 is 1.0
-unfoldable pub factorOut : Float → Bool
-factorOut factor =
-    cond (lt (ofBits binary32 0) factor) (cond (le factor (ofBits binary32 0x3f80_0000)) false true) true
 
 -- "the least rate at least 1, the rate from it to 1,000,000,000, else 6"
 unfoldable pub rateOut : ℕ → ℕ → Bool

@@ -4,8 +4,9 @@ ghost use mathlib.Core.Path.{_≡_};
 ghost use lib.ListN.{length, set};
 ghost use Rattle.pacing.specs.Coalescing.{fnv1a};
 ghost use Rattle.control.specs.RateController.{decreased};
-ghost use Rattle.tape.specs.Run.{linesLeft, tapeText};
-ghost use Rattle.bowunte.specs.Doors.{byteOf, shown, factorOut, rateOut, hashAnswer, decreaseAnswer, tapeAnswer, outLeft, linesLeftBy};
+ghost use Rattle.tape.specs.Run.{tapeText};
+ghost use Rattle.bowunte.specs.Doors.{byteOf, shown, rateOut, hashAnswer, decreaseAnswer, tapeAnswer, outLeft, linesLeftBy};
+use config::config::factor_out;
 use config::refusal;
 use control::rate_controller::decrease;
 use pacing::coalescing::hash_bytes;
@@ -48,19 +49,6 @@ fn put_result(out: &mut [u8], result: u64)
     put_byte(out, 5, byte_of(result, 1099511627776));
     put_byte(out, 6, byte_of(result, 281474976710656));
     put_byte(out, 7, byte_of(result, 72057594037927936));
-}
-
-// Whether a factor is outside (0, 1], or a NaN.
-fn factor_out(factor: f32) -> bool
-    ensures { λ r. ⌜ r ≡ factorOut factor ⌝ }
-{
-    if 0.0 < factor {
-        if factor <= 1.0 {
-            return false;
-        }
-        return true;
-    }
-    true
 }
 
 // Whether a rate is not from the least rate, itself at least 1, to 1,000,000,000.

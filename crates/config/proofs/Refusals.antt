@@ -6,7 +6,10 @@ use mathlib.Core.List.{List, [], _∷_}
 use mathlib.Core.Path.{_≡_, refl}
 use native.Mathlib.Omega.{arith}
 use lib.Dec.{ltb, leb}
+use Rattle.config.specs.Config.{settingsChecks}
+use Rattle.config.specs.Ledger.{countedChecks}
 use Rattle.config.specs.Refusal.{Check, when, applies, firstOf, order, answerOf}
+use Rattle.config.specs.declared.config.CongestionConfig.{CongestionConfig}
 use Rattle.config.specs.declared.ledger.Ledger.{Ledger}
 
 never : (n : ℕ) → 0 < n → n ≡ 0 → ⊥
@@ -74,6 +77,12 @@ chainOf (when n b ∷ checks) rest = cond b n (chainOf checks rest)
 abbrev pub Numbered : List Check → Type 0
 Numbered [] = Unit {0}
 Numbered (when n b ∷ checks) = (0 < n) × Numbered checks
+
+pub settings-numbered : (c : CongestionConfig) → Numbered (settingsChecks c)
+settings-numbered c = (omega arith, (omega arith, tt))
+
+pub counted-numbered : (l : Ledger) → Numbered (countedChecks l)
+counted-numbered l = (omega arith, tt)
 
 -- where none applies, what follows decides
 pub chain-on : (checks : List Check) (rest : ℕ) → Numbered checks → chainOf checks 0 ≡ 0 → chainOf checks rest ≡ rest

@@ -1,10 +1,10 @@
 -- The settings: defaults, the seven checks of `validate`, and the limits of document 01, "Domain". Definitions only.
 use Prim.Native.Nat.{ℕ}
-use mathlib.Core.Bool.{Bool, true, false, not, cond, _||_}
+use mathlib.Core.Bool.{Bool, true, false, not, cond, _&&_, _||_}
 use mathlib.Core.List.{List, [], _∷_}
 use lib.Dec.{ltb, leb, eqb}
 use lib.Ieee.{Float, binary32, lt, le, ofBits}
-use Rattle.numeric.specs.Float.{finite}
+use Rattle.numeric.specs.Float.{zero32, one32, finite}
 use Rattle.config.specs.Ledger.{timeCheck}
 use Rattle.config.specs.Refusal.{Check, when, answerOf, settingsInvalid, settingsBeyond}
 use Rattle.config.specs.declared.config.ConfigAnswer.{ConfigAnswer}
@@ -19,12 +19,6 @@ abbrev pub classNumber : Priority → ℕ
 classNumber P0 = 0
 classNumber P1 = 1
 classNumber P2 = 2
-
-abbrev zero32 : Float
-zero32 = ofBits binary32 0
-
-abbrev one32 : Float
-one32 = ofBits binary32 0x3f80_0000
 
 -- the Rust's `CongestionConfig::default()`; the floats are 0.5, 0.8, 0.90, 0.3 and 0.2 as f32
 abbrev pub defaults : CongestionConfig
@@ -102,6 +96,10 @@ notInOpen x = le x zero32 || le one32 x
 
 unfoldable pub notInClosed : Float → Bool
 notInClosed x = lt x zero32 || lt one32 x
+
+-- "a factor outside (0, 1], or NaN, is 2"
+unfoldable pub factorOut : Float → Bool
+factorOut x = not (lt zero32 x && le x one32)
 
 -- which of the seven checks of `validate` fails first, from 1; 0 where none does
 unfoldable pub failedCheck : CongestionConfig → ℕ

@@ -1,7 +1,8 @@
 -- A count of accepted calls and a last time (document 01, "Domain": times at most 2^62, at most 2^40 accepted calls). Definitions only.
-use Prim.Native.Nat.{ℕ, _+_, _^_, min}
+use Prim.Native.Nat.{ℕ, _^_}
 use mathlib.Core.List.{List, [], _∷_}
 use lib.Dec.{ltb, leb}
+use Rattle.numeric.specs.Integer.{next}
 use Rattle.config.specs.Refusal.{Check, when, rateBeyond, timeBeyond, callsUsedUp, timeBack}
 use Rattle.config.specs.declared.ledger.Ledger.{Ledger}
 
@@ -12,10 +13,10 @@ abbrev pub resumed : Ledger → ℕ → Ledger
 resumed l calls = record { calls = calls; last = l .last }
 
 abbrev pub counted : Ledger → Ledger
-counted l = record { calls = min (l .calls + 1) 18446744073709551615; last = l .last }
+counted l = record { calls = next (l .calls); last = l .last }
 
 abbrev pub moved : Ledger → ℕ → Ledger
-moved l time = record { calls = min (l .calls + 1) 18446744073709551615; last = time }
+moved l time = record { calls = next (l .calls); last = time }
 
 -- 7: a time above 2^62
 abbrev pub timeCheck : ℕ → Check

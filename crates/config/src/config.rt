@@ -2,7 +2,7 @@
 ghost use mathlib.Core.Path.{_≡_};
 ghost use Prim.Native.Nat.{_<_};
 ghost use Rattle.config.specs.Refusal.{answerOf};
-ghost use Rattle.config.specs.Config.{classNumber, defaults, withoutControl, failedCheck, notInOpenClosed, notInOpen, notInClosed, ratesBeyond, floatsBeyond, queuesBeyond, limitBeyond, checkedBy, makingChecks};
+ghost use Rattle.config.specs.Config.{classNumber, defaults, withoutControl, failedCheck, notInOpenClosed, notInOpen, notInClosed, factorOut, ratesBeyond, floatsBeyond, queuesBeyond, limitBeyond, checkedBy, makingChecks};
 use crate::refusal;
 use numeric::float::is_finite_f32;
 
@@ -250,6 +250,17 @@ fn not_in_open_closed(x: f32) -> bool
         return true;
     }
     x > 1.0
+}
+
+// Whether a factor that is given to a call lies outside (0, 1]; a NaN does.
+pub fn factor_out(factor: f32) -> bool
+    ensures { λ r. ⌜ r ≡ factorOut factor ⌝ }
+{
+    if factor > 0.0 {
+        if factor <= 1.0 { false } else { true }
+    } else {
+        true
+    }
 }
 
 // Whether a factor lies outside (0, 1).

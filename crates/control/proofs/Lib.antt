@@ -1,3 +1,2 @@
-pub mod Counted
 pub mod Rows
 pub mod Writers

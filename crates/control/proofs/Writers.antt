@@ -328,12 +328,6 @@ registered-writers a id class weight size room =
     writers-entered (without (a .table) id) (size-without (a .table) size id) (newWriter id class weight) (room-without (a .table) id room)
     ∙ ap (inserted (newWriter id class weight)) (writers-without (a .table) size id)
 
--- with no room the table is as it was
-pub registered-full : (a : BudgetAllocator) (id : ℕ) (class : Priority) (weight : Float) → fullFor (a .table) id ≡ true →
-    registered a id class weight .table ≡ a .table
-unfolding registered
-registered-full a id class weight full = full-kept (a .table) id (newWriter id class weight) full
-
 -- a writer unregistered: its id is taken out
 pub unregistered-writers : (a : BudgetAllocator) (id : ℕ) → length (a .table .rows) ≡ 64 →
     writersOf (unregistered a id .allocator .table) ≡ removed id (writersOf (a .table))

@@ -9,7 +9,8 @@ use Rattle.config.specs.Config.{classNumber}
 use Rattle.config.specs.declared.config.CongestionConfig.{CongestionConfig}
 use Rattle.config.specs.declared.config.Priority.{Priority}
 use Rattle.config.specs.declared.config.Priority.the-variants.{P0, P1, P2}
-use Rattle.numeric.specs.Float.{scaled, maxOf}
+use Rattle.numeric.specs.Float.{zero32, scaled, maxOf}
+use Rattle.numeric.specs.Integer.{upToU64, next}
 use Rattle.numeric.specs.Search.{first}
 use Rattle.control.specs.declared.budget_allocator.AllocationConfig.{AllocationConfig}
 use Rattle.control.specs.declared.budget_allocator.AllocationStats.{AllocationStats}
@@ -28,7 +29,7 @@ allocationConfigOf c = record { «p0_min_share» = c .«p0_min_share»; «p0_min
 
 -- settings that were turned down
 abbrev pub noAllocationConfig : AllocationConfig
-noAllocationConfig = record { «p0_min_share» = ofBits binary32 0; «p0_min_bps» = 0 }
+noAllocationConfig = record { «p0_min_share» = zero32; «p0_min_bps» = 0 }
 
 -- ---- the table: writers by class and then by id, from row 0
 
@@ -41,7 +42,7 @@ abbrev pub newWriter : ℕ → Priority → Float → WriterInfo
 newWriter id class weight = writerOf id class (maxOf weight (ofBits binary32 0x3dcc_cccd)) 0 0
 
 abbrev pub blankWriter : WriterInfo
-blankWriter = writerOf 0 P0 (ofBits binary32 0) 0 0
+blankWriter = writerOf 0 P0 zero32 0 0
 
 -- what the language's reading gives beyond an array's end; no row taken lies there
 abbrev pub noWriter : WriterInfo
@@ -127,7 +128,7 @@ abbrev pub classWeights : Float → Float → Float → ClassWeights
 classWeights p0 p1 p2 = record { p0 = p0; p1 = p1; p2 = p2 }
 
 abbrev pub noWeights : ClassWeights
-noWeights = classWeights (ofBits binary32 0) (ofBits binary32 0) (ofBits binary32 0)
+noWeights = classWeights zero32 zero32 zero32
 
 abbrev pub weighedIn : Priority → ClassWeights → Float → ClassWeights
 weighedIn P0 s x = classWeights (add binary32 (s .p0) x) (s .p1) (s .p2)
@@ -206,12 +207,9 @@ allottedTable t s = tableOf (map (withBudget s) (writersOf t) ++ drop (takenOf (
 -- "`total_distributed_bps` .. stop at their largest value"
 unfoldable pub distributedFrom : ℕ → List WriterInfo → ℕ
 distributedFrom sum [] = sum
-distributedFrom sum (w ∷ ws) = distributedFrom (min (sum + w .«budget_bps») 18446744073709551615) ws
+distributedFrom sum (w ∷ ws) = distributedFrom (upToU64 (sum + w .«budget_bps»)) ws
 
 -- ---- the allocator
-
-abbrev next : ℕ → ℕ
-next n = min (n + 1) 18446744073709551615
 
 abbrev pub statsOf : ℕ → ℕ → ℕ → ℕ → AllocationStats
 statsOf reallocations registered unregistered distributed =

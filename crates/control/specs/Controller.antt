@@ -1,5 +1,5 @@
 -- The congestion controller (document 01, controller.rs). Definitions only.
-use Prim.Native.Nat.{ℕ, _+_, _-_, min}
+use Prim.Native.Nat.{ℕ, _+_, _-_}
 use mathlib.Core.Bool.{Bool, true, false, cond}
 use lib.Dec.{ltb, leb}
 use lib.Ieee.{Float, binary32, ofBits}
@@ -7,6 +7,7 @@ use Rattle.config.specs.declared.config.CongestionConfig.{CongestionConfig}
 use Rattle.config.specs.declared.config.EcnMode.{EcnMode}
 use Rattle.config.specs.declared.config.EcnMode.the-variants.{Off, Opportunistic, Mandatory}
 use Rattle.config.specs.declared.config.Priority.{Priority}
+use Rattle.numeric.specs.Integer.{upToU32}
 use Rattle.signals.specs.Ecn.{newProcessor, processedTos, processedCe}
 use Rattle.signals.specs.RttEstimator.{newTracker, trackerUpdated, fullFor, anyInflated}
 use Rattle.signals.specs.declared.ecn.EcnProcessor.{EcnProcessor}
@@ -86,7 +87,7 @@ withWindow k w = coreOf (k .scorer) (k .«rate_controller») (k .ecn) (k .metric
 
 unfoldable pub onNacks : ControllerCore → ControllerConfig → ℕ → ControllerCore
 onNacks k c count =
-    cond (c .enabled) (withWindow k (windowOf (min (k .nacks .count + count) 4294967295) (k .nacks .start))) k
+    cond (c .enabled) (withWindow k (windowOf (upToU32 (k .nacks .count + count)) (k .nacks .start))) k
 
 abbrev pub withEcn : ControllerCore → EcnProcessor → ControllerCore
 withEcn k p = coreOf (k .scorer) (k .«rate_controller») p (k .metrics) (k .nacks) (k .«last_tick»)

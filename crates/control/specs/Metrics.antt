@@ -1,13 +1,11 @@
 -- The metrics that the controller's calls write (document 01, metrics.rs: "The fields that ported calls write"). Definitions only.
-use Prim.Native.Nat.{ℕ, _+_, min}
+use Prim.Native.Nat.{ℕ}
 use mathlib.Core.Bool.{Bool, cond}
+use Rattle.numeric.specs.Integer.{next}
 use Rattle.control.specs.declared.metrics.CongestionMetrics.{CongestionMetrics}
 
 abbrev pub metricsOf : ℕ → ℕ → ℕ → CongestionMetrics
 metricsOf rate eagain ce = record { «current_rate_bps» = rate; «eagain_total» = eagain; «ecn_ce_received» = ce }
-
-abbrev next : ℕ → ℕ
-next n = min (n + 1) 18446744073709551615
 
 abbrev pub noMetrics : CongestionMetrics
 noMetrics = metricsOf 0 0 0

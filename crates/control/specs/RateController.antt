@@ -2,9 +2,10 @@
 use Prim.Native.Nat.{ℕ, _+_, _-_, min, max}
 use mathlib.Core.Bool.{true, false, cond}
 use lib.Dec.{ltb, eqb}
-use lib.Ieee.{Float, binary32, ofBits}
+use lib.Ieee.{Float}
 use Rattle.config.specs.declared.config.CongestionConfig.{CongestionConfig}
-use Rattle.numeric.specs.Float.{scaled}
+use Rattle.numeric.specs.Float.{zero32, scaled}
+use Rattle.numeric.specs.Integer.{upToU64, next}
 use Rattle.control.specs.declared.rate_controller.Applied.{Applied}
 use Rattle.control.specs.declared.rate_controller.RateController.{RateController}
 use Rattle.control.specs.declared.rate_controller.RateControllerMetrics.{RateControllerMetrics}
@@ -35,31 +36,28 @@ metricsOf increases soft hard lost gained peak least =
       «min_rate_reached» = least;
     }
 
--- "`capacity_lost`, `capacity_gained` .. stop at their largest value"
-abbrev upTo64 : ℕ → ℕ
-upTo64 n = min n 18446744073709551615
-
 abbrev pub newMetrics : ℕ → RateControllerMetrics
 newMetrics rate = metricsOf 0 0 0 0 0 rate rate
 
+-- "`capacity_lost`, `capacity_gained` .. stop at their largest value"
 unfoldable pub gainedFrom : RateControllerMetrics → ℕ → ℕ → RateControllerMetrics
 gainedFrom m old new =
-    metricsOf (upTo64 (m .increases + 1)) (m .«decreases_soft») (m .«decreases_hard») (m .«capacity_lost»)
-    (upTo64 (m .«capacity_gained» + (new - old))) (max (m .«peak_rate») new) (m .«min_rate_reached»)
+    metricsOf (next (m .increases)) (m .«decreases_soft») (m .«decreases_hard») (m .«capacity_lost»)
+    (upToU64 (m .«capacity_gained» + (new - old))) (max (m .«peak_rate») new) (m .«min_rate_reached»)
 
 unfoldable pub lostFrom : RateControllerMetrics → ℕ → ℕ → RateControllerMetrics
 lostFrom m old new =
-    metricsOf (m .increases) (m .«decreases_soft») (m .«decreases_hard») (upTo64 (m .«capacity_lost» + (old - new)))
+    metricsOf (m .increases) (m .«decreases_soft») (m .«decreases_hard») (upToU64 (m .«capacity_lost» + (old - new)))
     (m .«capacity_gained») (m .«peak_rate») (min (m .«min_rate_reached») new)
 
 unfoldable pub softened : RateControllerMetrics → RateControllerMetrics
 softened m =
-    metricsOf (m .increases) (upTo64 (m .«decreases_soft» + 1)) (m .«decreases_hard») (m .«capacity_lost»)
+    metricsOf (m .increases) (next (m .«decreases_soft»)) (m .«decreases_hard») (m .«capacity_lost»)
     (m .«capacity_gained») (m .«peak_rate») (m .«min_rate_reached»)
 
 unfoldable pub hardened : RateControllerMetrics → RateControllerMetrics
 hardened m =
-    metricsOf (m .increases) (m .«decreases_soft») (upTo64 (m .«decreases_hard» + 1)) (m .«capacity_lost»)
+    metricsOf (m .increases) (m .«decreases_soft») (next (m .«decreases_hard»)) (m .«capacity_lost»)
     (m .«capacity_gained») (m .«peak_rate») (m .«min_rate_reached»)
 
 unfoldable pub reachedBy : RateControllerMetrics → ℕ → RateControllerMetrics
@@ -87,8 +85,8 @@ noParams =
       «min_rate» = 0;
       «max_rate» = 0;
       «ai_step» = 0;
-      «md_hard» = ofBits binary32 0;
-      «md_soft» = ofBits binary32 0;
+      «md_hard» = zero32;
+      «md_soft» = zero32;
     }
 
 abbrev pub controllerOf : ℕ → ℕ → RateControllerMetrics → RateController

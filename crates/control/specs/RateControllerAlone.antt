@@ -1,9 +1,9 @@
 -- A rate controller used alone: the numbers that may apply to each call, and what it answers and leaves. Definitions only.
 use Prim.Native.Nat.{ℕ}
-use mathlib.Core.Bool.{Bool, false, not, cond, _&&_, _||_}
+use mathlib.Core.Bool.{Bool, false, cond, _||_}
 use mathlib.Core.List.{List, [], _∷_}
 use lib.Dec.{ltb, eqb}
-use lib.Ieee.{Float, binary32, ofBits, lt, le}
+use Rattle.config.specs.Config.{factorOut}
 use Rattle.config.specs.Ledger.{opened, resumed, moved, timeCheck, timedChecks, rateChecks}
 use Rattle.config.specs.Refusal.{Check, when, answerOf, settingsBeyond, rateBeyond}
 use Rattle.config.specs.declared.ledger.Ledger.{Ledger}
@@ -14,13 +14,6 @@ use Rattle.control.specs.declared.rate_controller.RateController.{RateCo
 use Rattle.control.specs.declared.rate_controller.RateControllerAlone.{RateControllerAlone}
 use Rattle.control.specs.declared.rate_controller.RateParams.{RateParams}
 use Rattle.control.specs.declared.scorer.CongestionAction.{CongestionAction}
-
-abbrev zero32 : Float
-zero32 = ofBits binary32 0
-
--- "a factor outside (0, 1], or NaN, is 2"
-unfoldable pub factorOut : Float → Bool
-factorOut x = not (lt zero32 x && le x (ofBits binary32 0x3f80_0000))
 
 -- "any rate given: at most 1,000,000,000 bytes per second; `min_rate_bps` .. at least 1", and the least rate no more than the largest
 unfoldable pub ratesOut : RateParams → ℕ → Bool

@@ -1,5 +1,5 @@
 -- The congestion score (document 01, scorer.rs): "Score is score times decay plus impulse, clamped to 0..100". Definitions only.
-use Prim.Native.Nat.{ℕ, _+_, _-_, _*_, min}
+use Prim.Native.Nat.{ℕ, _+_, _-_, _*_}
 use mathlib.Core.Bool.{Bool, true, false, cond, _&&_}
 use lib.Dec.{ltb, leb}
 use lib.Ieee.{Float, binary32, ofInt, ofBits, add, mul, lt, le}
@@ -7,7 +7,8 @@ use lib.IntN.{pos}
 use Rattle.config.specs.declared.config.CongestionConfig.{CongestionConfig}
 use Rattle.config.specs.declared.moment.Moment.{Moment}
 use Rattle.config.specs.declared.moment.Moment.the-variants.{Never, At}
-use Rattle.numeric.specs.Float.{clampOf}
+use Rattle.numeric.specs.Float.{zero32, clampOf}
+use Rattle.numeric.specs.Integer.{upToU64, next, nextU32}
 use Rattle.control.specs.declared.scorer.CongestionAction.{CongestionAction}
 use Rattle.control.specs.declared.scorer.CongestionAction.the-variants.{None, Increase, DecreaseSoft, DecreaseHard}
 use Rattle.control.specs.declared.scorer.CongestionScorer.{CongestionScorer}
@@ -30,19 +31,9 @@ actionNumber Increase = 1
 actionNumber DecreaseSoft = 2
 actionNumber DecreaseHard = 3
 
--- one more, stopping at the largest u64 or, of a pending count, u32
-abbrev next : ℕ → ℕ
-next n = min (n + 1) 18446744073709551615
-
-abbrev nextPending : ℕ → ℕ
-nextPending n = min (n + 1) 4294967295
-
 -- a small number of the settings as f32
 abbrev asFloat : ℕ → Float
 asFloat n = ofInt binary32 (pos n)
-
-abbrev zero32 : Float
-zero32 = ofBits binary32 0
 
 -- what the settings say of the score; milliseconds become nanoseconds
 abbrev pub scorerConfigOf : CongestionConfig → ScorerConfig
@@ -151,7 +142,7 @@ recoveryMeasured m =
 unfoldable pub congestedFor : ScorerMetrics → ℕ → ScorerMetrics
 congestedFor m interval =
     metricsOf (m .ticks) (m .«congestion_events») (m .«recovery_events») (m .«peak_score»)
-    (min (m .«congested_duration» + interval) 18446744073709551615)
+    (upToU64 (m .«congested_duration» + interval))
 
 -- ---- the scorer
 
@@ -177,16 +168,16 @@ abbrev pub signalled : CongestionScorer → PendingSignals → SignalCounts → 
 signalled s pending signals = scorerOf (s .score) (s .«last_tick») (s .phase) pending signals (s .metrics)
 
 abbrev pub eagainIn : PendingSignals → PendingSignals
-eagainIn p = pendingOf (nextPending (p .«eagain_count»)) (p .«rtt_inflated») (p .«nack_count») (p .«loss_count»)
+eagainIn p = pendingOf (nextU32 (p .«eagain_count»)) (p .«rtt_inflated») (p .«nack_count») (p .«loss_count»)
 
 abbrev pub inflatedIn : PendingSignals → PendingSignals
 inflatedIn p = pendingOf (p .«eagain_count») true (p .«nack_count») (p .«loss_count»)
 
 abbrev pub nackIn : PendingSignals → PendingSignals
-nackIn p = pendingOf (p .«eagain_count») (p .«rtt_inflated») (nextPending (p .«nack_count»)) (p .«loss_count»)
+nackIn p = pendingOf (p .«eagain_count») (p .«rtt_inflated») (nextU32 (p .«nack_count»)) (p .«loss_count»)
 
 abbrev pub lossIn : PendingSignals → PendingSignals
-lossIn p = pendingOf (p .«eagain_count») (p .«rtt_inflated») (p .«nack_count») (nextPending (p .«loss_count»))
+lossIn p = pendingOf (p .«eagain_count») (p .«rtt_inflated») (p .«nack_count») (nextU32 (p .«loss_count»))
 
 unfoldable pub onEagain : CongestionScorer → CongestionScorer
 onEagain s =
@@ -234,7 +225,7 @@ inPhase s phase metrics = scorerOf (s .score) (s .«last_tick») phase (s .pendi
 
 -- congestion begins, and with it a cooldown; the decrease is hard after an EAGAIN, where the settings say so
 abbrev pub congestedPhase : ScorerConfig → ℕ → Phase
-congestedPhase c time = phaseOf Congested (At (min (time + c .cooldown) 18446744073709551615)) Never
+congestedPhase c time = phaseOf Congested (At (upToU64 (time + c .cooldown))) Never
 
 abbrev pub decreaseFor : Bool → CongestionAction
 decreaseFor hard = cond hard DecreaseHard DecreaseSoft

@@ -10,9 +10,9 @@ use config::refusal;
 use numeric::float::is_finite_f32;
 use numeric::float::max_f32;
 use numeric::float::scaled_u32;
-use numeric::integer::bounded_add;
 use numeric::integer::increment;
 use numeric::integer::max_u32;
+use numeric::integer::saturating_add;
 use numeric::integer::saturating_sub_u32;
 
 // Writers that the table holds.
@@ -495,7 +495,7 @@ impl WriterTable {
         let mut k: usize = 0;
         while k < n {
             let row = self.rows[k];
-            total = bounded_add(total, row.budget_bps as u64, 18446744073709551615);
+            total = saturating_add(total, row.budget_bps as u64);
             k += 1;
         }
         total

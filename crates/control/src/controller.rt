@@ -15,7 +15,7 @@ use config::config::EcnMode;
 use config::config::Priority;
 use config::ledger::Ledger;
 use config::refusal;
-use numeric::integer::bounded_add_u32;
+use numeric::integer::saturating_add_u32;
 use numeric::integer::saturating_sub;
 use signals::ecn::EcnProcessor;
 use signals::rtt_estimator::PeerRttTracker;
@@ -141,7 +141,7 @@ impl ControllerCore {
         if config.enabled {
             let nacks = self.nacks;
             let nacks = NackWindow {
-                count: bounded_add_u32(nacks.count, count, 4294967295),
+                count: saturating_add_u32(nacks.count, count),
                 start: nacks.start,
             };
             self.nacks = nacks;

@@ -2,18 +2,19 @@
 ghost use mathlib.Core.Path.{_≡_};
 ghost use Rattle.config.specs.Refusal.{answerOf};
 ghost use Rattle.control.specs.RateController.{decreased, newMetrics, gainedFrom, lostFrom, softened, hardened, reachedBy, paramsOf, noParams, withParams, changedTo, applied, rateSet};
-ghost use Rattle.control.specs.RateControllerAlone.{ratesOut, factorOut, makingChecks, zeroAlone, madeAlone, resumedAlone, appliedAlone, ratedAlone};
+ghost use Rattle.control.specs.RateControllerAlone.{ratesOut, makingChecks, zeroAlone, madeAlone, resumedAlone, appliedAlone, ratedAlone};
 use crate::scorer::CongestionAction;
 use config::config::CongestionConfig;
+use config::config::factor_out;
 use config::ledger::Ledger;
 use config::refusal;
 use numeric::float::scaled_u32;
-use numeric::integer::bounded_add;
 use numeric::integer::bounded_add_u32;
 use numeric::integer::clamp_u32;
 use numeric::integer::increment;
 use numeric::integer::max_u32;
 use numeric::integer::min_u32;
+use numeric::integer::saturating_add;
 use numeric::integer::saturating_sub_u32;
 
 // The range of the rate in bytes per second, the step of an increase and the factors of a decrease.
@@ -109,7 +110,7 @@ impl RateControllerMetrics {
         let gain = saturating_sub_u32(new, old);
         RateControllerMetrics {
             increases: increment(self.increases),
-            capacity_gained: bounded_add(self.capacity_gained, gain as u64, 18446744073709551615),
+            capacity_gained: saturating_add(self.capacity_gained, gain as u64),
             peak_rate: max_u32(self.peak_rate, new),
             ..self
         }
@@ -121,7 +122,7 @@ impl RateControllerMetrics {
     {
         let loss = saturating_sub_u32(old, new);
         RateControllerMetrics {
-            capacity_lost: bounded_add(self.capacity_lost, loss as u64, 18446744073709551615),
+            capacity_lost: saturating_add(self.capacity_lost, loss as u64),
             min_rate_reached: min_u32(self.min_rate_reached, new),
             ..self
         }
@@ -278,17 +279,6 @@ fn rates_out(params: RateParams, initial_rate: u32) -> bool
         return true;
     }
     refusal::LARGEST_RATE < initial_rate
-}
-
-// Whether a factor lies outside (0, 1]; a NaN does.
-fn factor_out(factor: f32) -> bool
-    ensures { λ r. ⌜ r ≡ factorOut factor ⌝ }
-{
-    if factor > 0.0 {
-        if factor <= 1.0 { false } else { true }
-    } else {
-        true
-    }
 }
 
 // 2, 6, 7 or 0.

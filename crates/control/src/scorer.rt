@@ -8,9 +8,9 @@ use config::moment::Moment;
 use numeric::float::clamp_f32;
 use numeric::float::f32_of_u8;
 use numeric::float::f32_of_u32;
-use numeric::integer::bounded_add;
 use numeric::integer::increment;
 use numeric::integer::increment_u32;
+use numeric::integer::saturating_add;
 use numeric::integer::saturating_sub;
 
 // Stable: the rate may grow. Congested: it was lowered, and waits for recovery.
@@ -215,11 +215,7 @@ impl ScorerMetrics {
         ensures { λ r. ⌜ r ≡ congestedFor self interval ⌝ }
     {
         ScorerMetrics {
-            congested_duration: bounded_add(
-                self.congested_duration,
-                interval,
-                18446744073709551615,
-            ),
+            congested_duration: saturating_add(self.congested_duration, interval),
             ..self
         }
     }
@@ -404,7 +400,7 @@ impl CongestionScorer {
     {
         let phase = Phase {
             state: ScorerState::Congested,
-            cooldown_until: Moment::At(bounded_add(time, config.cooldown, 18446744073709551615)),
+            cooldown_until: Moment::At(saturating_add(time, config.cooldown)),
             stable_since: Moment::Never,
         };
         self.phase = phase;

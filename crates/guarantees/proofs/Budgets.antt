@@ -11,16 +11,9 @@ use borrow.Author.Tests.{eqb-true, eqb-false, ltb-true, ltb-false, lt-leb}
 use lib.Dec.{ltb, eqb}
 use lib.ListN.{length, take}
 use Rattle.config.specs.declared.config.Priority.{Priority}
-use Rattle.numeric.proofs.Choice.{by-test}
-use Rattle.numeric.specs.Search.{first}
-use Rattle.pacing.specs.TokenBucket.{rated, resized}
-use Rattle.pacing.specs.WriterPacer.{rateOf, rateSet}
-use Rattle.pacing.specs.declared.pool.Limits.{Limits}
-use Rattle.pacing.specs.declared.writer_pacer.PacerConfig.{PacerConfig}
-use Rattle.pacing.specs.declared.writer_pacer.PacerCore.{PacerCore}
 use Rattle.control.proofs.Writers.{placeWith, registered-writers, allotted-writers, in-order-from}
-use Rattle.control.specs.BudgetAllocator as allocator
 use Rattle.control.specs.BudgetAllocator.{newWriter, rowAt, comesBefore, takenOf, writersOf, placeOf, entered, isKnown, without, fullFor, sharesOf, withBudget, allottedTable, one, registered, reallocated}
+use Rattle.control.specs.BudgetAllocator as allocator
 use Rattle.control.specs.Controller.{registeredIn}
 use Rattle.control.specs.Writers.{Lacks, InOrder, inserted, removed, register, reallocate}
 use Rattle.control.specs.declared.budget_allocator.AllocationConfig.{AllocationConfig}
@@ -29,10 +22,17 @@ use Rattle.control.specs.declared.budget_allocator.Shares.{Shares}
 use Rattle.control.specs.declared.budget_allocator.WriterInfo.{WriterInfo}
 use Rattle.control.specs.declared.budget_allocator.WriterTable.{WriterTable}
 use Rattle.control.specs.declared.controller.CongestionController.{CongestionController}
+use Rattle.numeric.proofs.Choice.{by-test}
+use Rattle.numeric.specs.Search.{first}
+use Rattle.pacing.specs.TokenBucket.{rated, resized}
+use Rattle.pacing.specs.WriterPacer.{rateOf, rateSet}
+use Rattle.pacing.specs.declared.pool.Limits.{Limits}
+use Rattle.pacing.specs.declared.writer_pacer.PacerConfig.{PacerConfig}
+use Rattle.pacing.specs.declared.writer_pacer.PacerCore.{PacerCore}
 use Rattle.station.specs.Station.{writerOf, writerAt, pacerIn, withPacer, joined, budgeted, budgetedAll, allotted, registerLeaves, firstPacer}
 use Rattle.station.specs.declared.roster.Roster.{Roster}
-use Rattle.station.specs.declared.station.Station.{Station}
 use Rattle.station.specs.declared.roster.Writer.{Writer}
+use Rattle.station.specs.declared.station.Station.{Station}
 use Rattle.guarantees.specs.Calls.{Call, Reply, nothing, signal, unchanged, updates, action, Outcome, rowsOf, outcome, after}
 use Rattle.guarantees.specs.Theorem.{Kept, keep, Each, isUpdates, SetTo, ReplyReaches, StartsLeast, Reaches}
 use Rattle.guarantees.proofs.Changes.{begins-down, Cases, by-case}

@@ -14,18 +14,19 @@ use Rattle.config.proofs.Refusals.{NoneOf, none-where-accepted, answer-applies}
 use Rattle.config.specs.Ledger.{timedChecks, rateChecks}
 use Rattle.config.specs.Refusal.{Check, applies, order, answerOf}
 use Rattle.config.specs.declared.config.Priority.{Priority}
-use Rattle.numeric.proofs.Choice.{by-test}
-use Rattle.pacing.specs.Pool.{isShort}
-use Rattle.pacing.specs.WriterPacer.{actionNumber, handInStored}
-use Rattle.pacing.specs.declared.coalescing.InstanceKey.{InstanceKey}
-use Rattle.pacing.specs.declared.writer_pacer.SendAction.{SendAction}
-use Rattle.pacing.specs.declared.writer_pacer.SendAction.the-variants.{Send, Empty, RateLimited}
-use Rattle.signals.specs.RttEstimator.{anyInflated}
 use Rattle.control.specs.BudgetAllocator.{reallocated}
 use Rattle.control.specs.Controller.{sampled, tickedWith, coreTicked, controllerTicked, controllerSet}
 use Rattle.control.specs.declared.controller.CongestionController.{CongestionController}
 use Rattle.control.specs.declared.controller.ControllerTicked.{ControllerTicked}
 use Rattle.control.specs.declared.controller.CoreTicked.{CoreTicked}
+use Rattle.numeric.proofs.Choice.{by-test}
+use Rattle.pacing.specs.Pool.{isShort}
+use Rattle.pacing.specs.WriterPacer.{actionNumber, handInStored}
+use Rattle.pacing.specs.declared.coalescing.InstanceKey.{InstanceKey}
+use Rattle.pacing.specs.declared.pool.Limits.{Limits}
+use Rattle.pacing.specs.declared.writer_pacer.SendAction.{SendAction}
+use Rattle.pacing.specs.declared.writer_pacer.SendAction.the-variants.{Send, Empty, RateLimited}
+use Rattle.signals.specs.RttEstimator.{anyInflated}
 use Rattle.station.specs.Station.{turnedDown, leftBy, answerWith, registerChecks, registerLeaves, registeredStation, steered, eagainStation, nacksStation, tosStation, rttChecks, rttStation, allotted, tickLeaves, tickedStation, ratedStation, limitsIn, slotsNeeded, handInChecks, enqueuedIn, handInLeaves, handedStation, poolHanded, sendChecks, attemptIn, sendLeaves, sentStation}
 use Rattle.station.specs.declared.station.Station.{Station}
 use Rattle.station.specs.declared.station.StationAnswer.{StationAnswer}
@@ -33,7 +34,6 @@ use Rattle.station.specs.declared.station.StationSent.{StationSent}
 use Rattle.guarantees.specs.Book.{Book, Sent, none, sentIn, noted}
 use Rattle.guarantees.specs.Calls.{Lent, owed, Steering, eagain, tos, nacks, rtt, tick, setRate, Call, register, control, handIn, send, controlled, Reply, nothing, signal, unchanged, updates, action, Outcome, outcomeOf, plain, signals, allots, attempts, rowsOf, lentLength, lentIn, outcome, written}
 use Rattle.guarantees.specs.Theorem.{isUpdates, begins, paidBy}
-use Rattle.pacing.specs.declared.pool.Limits.{Limits}
 
 -- ---- calls and replies that concern no record
 

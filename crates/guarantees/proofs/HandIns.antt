@@ -5,17 +5,19 @@ use mathlib.Core.Bool.{Bool, true, false, cond, true≢false}
 use mathlib.Core.List.{List}
 use mathlib.Core.Logic.{_≢_}
 use mathlib.Core.Path.{_≡_, refl, sym, ap, ap₂, subst, _∙_}
+use native.Mathlib.Nat.{lt-of-lt-of-le}
 use native.Mathlib.Omega.{arith}
 use lib.Dec.{ltb}
 use lib.ListN.{length}
 use Rattle.config.specs.declared.config.Priority.{Priority}
 use Rattle.config.specs.declared.config.Priority.the-variants.{P0, P1, P2}
 use Rattle.numeric.proofs.Choice.{by-test}
-use Rattle.pacing.proofs.Counts.{look-handed-other, length-handed}
+use Rattle.numeric.specs.Integer.{next}
+use Rattle.pacing.proofs.Counts.{look-handed-other, length-handed, queues-apart}
 use Rattle.pacing.proofs.Records.{Matches, Stored, held-noted, held-other, length-filled, hand-in-matches, send-matches}
 use Rattle.pacing.proofs.Rings.{contents-same, length-contents, next-slot-below, slot-below, first-placeIn}
-use Rattle.pacing.proofs.Slots.{Noted, noted-hand-in, look-noted, queueNumber, class-below}
-use Rattle.pacing.specs.Coalescing.{afterNext, found, inserted}
+use Rattle.pacing.proofs.Slots.{Noted, noted-hand-in, look-noted}
+use Rattle.pacing.specs.Coalescing.{found, inserted}
 use Rattle.pacing.specs.Entries.{queueAt, entryOf, look, entered, mostOf}
 use Rattle.pacing.specs.Pool.{bytesOf, slotsOf, slotStart, stored}
 use Rattle.pacing.specs.Records.{Held, held, waiting, limitIn, keyed, withList, listAfter, Parts, partsOf, bookOf, bookHanded, bookSent, recordIn, Shows}
@@ -120,7 +122,7 @@ matches-as m i s b b′ lists next nextP2 ok =
       nextP2 = ok .nextP2 ∙ nextP2;
     }
 
-exact : (n : ℕ) → n < 18446744073709551615 → afterNext n ≡ n + 1
+exact : (n : ℕ) → n < 18446744073709551615 → next n ≡ n + 1
 exact n h = omega arith
 
 exactP2 : (b : Page) (c : Priority) → b .nextP2 < 18446744073709551615 → records.nextP2After (pageView b) c ≡ nextP2After b c
@@ -201,9 +203,6 @@ matches-frame m j p words pool words′ pool′ b storage same ok =
       nextP2 = ok .nextP2;
     }
 
-apart : (i : ℕ) (c : Priority) (j : ℕ) (d : Priority) → j ≢ i → queueNumber i c ≢ queueNumber j d
-apart i c j d ne e = ne (omega (arith, class-below c, class-below d))
-
 module _
     (m : Limits) (i : ℕ) (c : Priority) (words pool : List ℕ) (kept : Kept) (bytes : List ℕ) (key : InstanceKey) (roomy : (d : Priority) → limitIn m d ≤ mostOf d)
     (n : length bytes ≤ 1472) (wide : bytesOf (i * slotsOf m + slotsOf m) ≤ length pool) (lo : isFull (kept .fate) ≡ false → kept .slot < limitIn m c)
@@ -243,7 +242,7 @@ module _
             ≡ held m j d words pool t
         go true e = held-noted m j d words noted pool i t counts below
         go false e =
-            held-other m i c noted pool (kept .slot) (entryOf (kept .sequence) (length bytes) key) bytes (lo e) (roomy c) n wide j d t (apart i c j d ne) h (roomy d)
+            held-other m i c noted pool (kept .slot) (entryOf (kept .sequence) (length bytes) key) bytes (lo e) (roomy c) n wide j d t (queues-apart i c j d ne) h (roomy d)
             (subst (λ (x : Entry). x .length ≤ 1472) (sym (look-noted i words noted j d t counts below)) short)
             ∙ held-noted m j d words noted pool i t counts below
 
@@ -255,11 +254,8 @@ module _
           wide = rw length-pool (ok .wide);
           short = λ d t h.
               subst (λ (x : Entry). x .length ≤ 1472)
-              (sym (look-handed-other words i c kept (length bytes) key j d t ne (λ e. below (lo e) (roomy c)) (omega (arith, roomy d)))) (ok .short d t h);
+              (sym (look-handed-other words i c kept (length bytes) key j d t ne (λ e. lt-of-lt-of-le (lo e) (roomy c)) (omega (arith, roomy d)))) (ok .short d t h);
         }
-      where
-        below : {x y z : ℕ} → x < y → y ≤ z → x < z
-        below a b = omega arith
 
     pub matches-handed : (j : ℕ) (p : PacerCore) (b : records.Book) → j ≢ i → Matches m j (partsOf p words pool) b → Matches m j (partsOf p words′ pool′) b
     matches-handed j p b ne ok =

@@ -13,18 +13,18 @@ use lib.ListN.{length}
 use Rattle.config.specs.Ledger.{moved}
 use Rattle.config.specs.Refusal.{accepted}
 use Rattle.config.specs.declared.config.Priority.{Priority}
+use Rattle.control.specs.BudgetAllocator.{isKnown}
+use Rattle.control.specs.declared.budget_allocator.WriterTable.{WriterTable}
+use Rattle.control.specs.declared.controller.CongestionController.{CongestionController}
 use Rattle.numeric.proofs.Choice.{by-test}
 use Rattle.pacing.specs.WriterPacer.{handInWritten, sendNoted}
 use Rattle.pacing.specs.declared.token_bucket.TokenBucket.{TokenBucket}
 use Rattle.pacing.specs.declared.writer_pacer.PacerConfig.{PacerConfig}
 use Rattle.pacing.specs.declared.writer_pacer.PacerCore.{PacerCore}
-use Rattle.control.specs.BudgetAllocator.{isKnown}
-use Rattle.control.specs.declared.budget_allocator.WriterTable.{WriterTable}
-use Rattle.control.specs.declared.controller.CongestionController.{CongestionController}
 use Rattle.station.specs.Station.{stationOf, writerOf, writerAt, pacerIn, withPacer, joined, budgeted, budgetedAll, steered, allotted, registerLeaves, firstPacer, paced, enqueuedIn, attemptIn}
 use Rattle.station.specs.declared.roster.Roster.{Roster}
-use Rattle.station.specs.declared.station.Station.{Station}
 use Rattle.station.specs.declared.roster.Writer.{Writer}
+use Rattle.station.specs.declared.station.Station.{Station}
 use Rattle.guarantees.specs.Calls.{Lent, Call, register, control, handIn, send, nothing, action, Outcome, outcome, State, answered, after, run}
 use Rattle.guarantees.specs.Theorem.{bucketIn, setsBy, sets, Unset, paidAs, paidBy, paid, refillsBy, refills, Allowance}
 use Rattle.guarantees.proofs.Changes.{Timed, Cases, by-case, by-send}

@@ -7,12 +7,12 @@ use native.Mathlib.Decide.{ℕ-discrete}
 use native.Mathlib.Omega.{arith}
 use lib.ListN.{length, getD, take, drop, length-set}
 use lib.Seq.{getD-set-same, getD-set-other}
-use Rattle.numeric.proofs.Choice.{by-test}
-use Rattle.pacing.specs.declared.writer_pacer.PacerConfig.{PacerConfig}
-use Rattle.pacing.specs.declared.writer_pacer.PacerCore.{PacerCore}
 use Rattle.control.proofs.Writers.{length-mapped}
 use Rattle.control.specs.BudgetAllocator.{isKnown}
 use Rattle.control.specs.declared.budget_allocator.WriterTable.{WriterTable}
+use Rattle.numeric.proofs.Choice.{by-test}
+use Rattle.pacing.specs.declared.writer_pacer.PacerConfig.{PacerConfig}
+use Rattle.pacing.specs.declared.writer_pacer.PacerCore.{PacerCore}
 use Rattle.station.specs.Station.{writerOf, noWriter, writerAt, takenOf, joined, withPacer, budgeted, budgetedAll}
 use Rattle.station.specs.declared.roster.Roster.{Roster}
 use Rattle.station.specs.declared.roster.Writer.{Writer}

@@ -15,6 +15,9 @@ use Rattle.config.specs.Config.{classNumber}
 use Rattle.config.specs.Ledger.{moved}
 use Rattle.config.specs.declared.config.Priority.{Priority}
 use Rattle.config.specs.declared.config.Priority.the-variants.{P0, P1, P2}
+use Rattle.control.specs.BudgetAllocator.{isKnown}
+use Rattle.control.specs.declared.budget_allocator.WriterTable.{WriterTable}
+use Rattle.control.specs.declared.controller.CongestionController.{CongestionController}
 use Rattle.numeric.proofs.Choice.{by-test}
 use Rattle.pacing.proofs.Counts.{count-handed, count-handed-other, count-sent, count-sent-other, length-handed, length-sent}
 use Rattle.pacing.proofs.Records.{Matches, Stored, Limited, stays, made-matches}
@@ -36,13 +39,10 @@ use Rattle.pacing.specs.declared.writer_pacer.Enqueued.{Enqueued}
 use Rattle.pacing.specs.declared.writer_pacer.PacerConfig.{PacerConfig}
 use Rattle.pacing.specs.declared.writer_pacer.SendAction.{SendAction}
 use Rattle.pacing.specs.declared.writer_pacer.SendAction.the-variants.{Send, Empty, RateLimited}
-use Rattle.control.specs.BudgetAllocator.{isKnown}
-use Rattle.control.specs.declared.budget_allocator.WriterTable.{WriterTable}
-use Rattle.control.specs.declared.controller.CongestionController.{CongestionController}
 use Rattle.station.specs.Station.{stationOf, writerOf, writerAt, pacerIn, limitsIn, slotsNeeded, joined, budgeted, budgetedAll, steered, allotted, registerLeaves, firstPacer, paced, enqueuedIn, attemptIn}
 use Rattle.station.specs.declared.roster.Roster.{Roster}
-use Rattle.station.specs.declared.station.Station.{Station}
 use Rattle.station.specs.declared.roster.Writer.{Writer}
+use Rattle.station.specs.declared.station.Station.{Station}
 use Rattle.guarantees.specs.Book.{Page, Book, emptyPage, withPage, Sent, none, one, sentAs, sentIn, handedBy, pageAfterSend, noted}
 use Rattle.guarantees.specs.Calls.{Lent, Call, register, control, handIn, send, Outcome, outcome, written}
 use Rattle.guarantees.proofs.Changes.{Timed, Cases, by-case}

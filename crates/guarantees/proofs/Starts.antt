@@ -1,10 +1,10 @@
 -- What settings that make a station promise, and that a station just made matches an empty book. Assumes nothing.
 use Prim.Native.Nat.{ℕ, _≤_}
-use mathlib.Core.Bool.{Bool, true, false, true≢false, not, cond, _||_}
+use mathlib.Core.Bool.{Bool, true, false, true≢false, cond, _||_}
 use mathlib.Core.List.{List, []}
 use mathlib.Core.Path.{_≡_, refl}
 use native.Mathlib.Omega.{arith}
-use borrow.Author.Tests.{eqb-true, eqb-false, ltb-false}
+use borrow.Author.Tests.{eqb-true, eqb-false, ltb-false, not-false}
 use lib.Dec.{ltb, eqb}
 use lib.ListN.{length}
 use Rattle.config.proofs.Refusals.{NoneOf, none-where-accepted}
@@ -13,13 +13,13 @@ use Rattle.config.specs.Refusal.{order, answerOf, accepted}
 use Rattle.config.specs.declared.config.CongestionConfig.{CongestionConfig}
 use Rattle.config.specs.declared.config.Priority.{Priority}
 use Rattle.config.specs.declared.config.Priority.the-variants.{P0, P1, P2}
+use Rattle.control.proofs.Writers.{in-order}
+use Rattle.control.specs.Controller.{newController}
 use Rattle.pacing.proofs.Records.{Limited, stored-new, getD-zeros, length-zeros}
 use Rattle.pacing.specs.Entries.{mostOf}
 use Rattle.pacing.specs.Pool.{bytesOf, limitOf, limitsOf}
 use Rattle.pacing.specs.Records.{limitIn}
 use Rattle.pacing.specs.WriterPacer.{countAt}
-use Rattle.control.proofs.Writers.{in-order}
-use Rattle.control.specs.Controller.{newController}
 use Rattle.station.specs.Station.{slotsNeeded, stationConfigOf, newStation, zeroStation, madeStation, answerWith, turnedDown}
 use Rattle.station.specs.declared.station.StationAnswer.{StationAnswer}
 use Rattle.guarantees.specs.Book.{emptyBook}
@@ -44,10 +44,6 @@ or-left false b e = refl
 or-right : (a b : Bool) → a || b ≡ false → b ≡ false
 or-right true b e = absurd (true≢false e)
 or-right false b e = e
-
-not-false : (a : Bool) → not a ≡ false → a ≡ true
-not-false true e = refl
-not-false false e = absurd (true≢false e)
 
 -- `validate`'s first check: the largest rate is not below the least
 rates-ordered : (c : CongestionConfig) → failedCheck c ≡ 0 → c .«min_rate_bps» ≤ c .«max_rate_bps»

@@ -12,6 +12,7 @@ use Rattle.config.specs.Config.{classNumber}
 use Rattle.config.specs.declared.config.Priority.{Priority}
 use Rattle.config.specs.declared.config.Priority.the-variants.{P0, P1, P2}
 use Rattle.numeric.proofs.Choice.{by-test}
+use Rattle.pacing.proofs.Slots.{class-below}
 use Rattle.pacing.specs.Counts.{onlyAt, handAdds, sendAdds}
 use Rattle.pacing.specs.Records.{Held, limitIn, listAfter, withList}
 use Rattle.pacing.specs.Ring.{fateNumber}
@@ -226,11 +227,6 @@ grown-in w P0 = w .p0
 grown-in w P1 = w .p1
 grown-in w P2 = w .p2
 
-class-most : (c : Priority) → classNumber c ≤ 2
-class-most P0 = omega arith
-class-most P1 = omega arith
-class-most P2 = omega arith
-
 -- tallies stay where the lists grow by what the counts add
 grown-tallied :
     (l l′ : List ℕ) (i : ℕ) (b b′ : Page) (f : ℕ → ℕ) → Tallied l i b → ((k : ℕ) → k < 10 → k ≢ 2 → countIn l′ i k ≡ countIn l i k + f k)
@@ -238,9 +234,9 @@ grown-tallied :
 grown-tallied l l′ i b b′ f t adds w =
     record {
       accepted = λ c.
-          to (3 + classNumber c) (omega (arith, class-most c)) (λ (q : 3 + classNumber c ≡ 2). omega arith) (t .accepted c) (grown-in w c .accepted);
+          to (3 + classNumber c) (omega (arith, class-below c)) (λ (q : 3 + classNumber c ≡ 2). omega arith) (t .accepted c) (grown-in w c .accepted);
       sent = λ c.
-          to (6 + classNumber c) (omega (arith, class-most c)) (λ (q : 6 + classNumber c ≡ 2). omega arith) (t .sent c) (grown-in w c .sent);
+          to (6 + classNumber c) (omega (arith, class-below c)) (λ (q : 6 + classNumber c ≡ 2). omega arith) (t .sent c) (grown-in w c .sent);
       pushed-p0 = w .p0 .pushed ∙ omega (arith, t .pushed-p0);
       pushed-p1 = to 9 (omega arith) (λ (q : _≡_ {A = ℕ} 9 2). omega arith) (t .pushed-p1) (w .p1 .pushed);
       pushed-p2 = to 1 (omega arith) (λ (q : _≡_ {A = ℕ} 1 2). omega arith) (t .pushed-p2) (w .p2 .pushed);

@@ -3,6 +3,13 @@ use mathlib.Core.Path.{refl}
 use lib.Ieee.{ofInt, ofBits, add, mul, div, le, toUnsigned, isNan}
 use Rattle.config.specs.Config.{notInOpenClosed, notInOpen, notInClosed, failedCheck, ratesBeyond, floatsBeyond, limitBeyond, queuesBeyond}
 use Rattle.config.specs.Refusal.{answerOf}
+use Rattle.control.specs.BudgetAllocator.{comesBefore, placeOf, placeFor, lacking, withRow, isKnown, without, weighed, weightsFrom, shareOf, reserveOf, splitOf, urgentPart, leftFrom, sharesOf, budgetFor, withBudget, allottedTable, registered, reallocated}
+use Rattle.control.specs.BudgetAllocator as allocator
+use Rattle.control.specs.Controller.{newCore, onInflated, onWindow, steered, coreTicked, newController, registeredIn, controllerTicked}
+use Rattle.control.specs.Controller as controller
+use Rattle.control.specs.RateController.{decreased, withParams, changedTo, applied}
+use Rattle.control.specs.Scorer.{addedIf, impulseOf, congestedAt, evaluatedStable, evaluated, ticked}
+use Rattle.control.specs.Scorer as scorer
 use Rattle.numeric.specs.Float.{scaled}
 use Rattle.numeric.specs.Search.{first}
 use Rattle.pacing.specs.Coalescing.{found, inserted, exchanged, insertNoted}
@@ -13,13 +20,6 @@ use Rattle.pacing.specs.TokenBucket.{credit, waitOf, refilled, tried, told}
 use Rattle.pacing.specs.Window.{placeIn}
 use Rattle.pacing.specs.WriterPacer.{placedIn, enqueueP1, enqueueP2, enqueue, frontOf, gone, paid, waited, limited, attempt, handInNoted, sentNoted, sendNoted, handInWritten, handInStored, attemptBy, rateSet}
 use Rattle.signals.specs.RttEstimator.{anyInflated}
-use Rattle.control.specs.BudgetAllocator as allocator
-use Rattle.control.specs.BudgetAllocator.{comesBefore, placeOf, placeFor, lacking, withRow, isKnown, without, weighed, weightsFrom, shareOf, reserveOf, splitOf, urgentPart, leftFrom, sharesOf, budgetFor, withBudget, allottedTable, registered, reallocated}
-use Rattle.control.specs.Controller as controller
-use Rattle.control.specs.Controller.{newCore, onInflated, onWindow, steered, coreTicked, newController, registeredIn, controllerTicked}
-use Rattle.control.specs.RateController.{decreased, withParams, changedTo, applied}
-use Rattle.control.specs.Scorer as scorer
-use Rattle.control.specs.Scorer.{addedIf, impulseOf, congestedAt, evaluatedStable, evaluated, ticked}
 use Rattle.station.specs.Station.{isHere, joined, withPacer, leftBy, madeStation, registerLeaves, registeredStation, eagainStation, budgeted, budgetedAll, tickedStation, handedStation, poolHanded, sentStation}
 use Rattle.guarantees.specs.Book.{joining, replacing, keyedIn, handedTo, takenFrom, withQueue, handedBy, withPage, pageAfterSend, noted}
 use Rattle.guarantees.specs.Calls.{controlled, outcome, inPlace, written, after, answers}

@@ -6,11 +6,11 @@ use lib.Dec.{eqb}
 use lib.Ieee.{Float}
 use lib.ListN.{length}
 use Rattle.config.specs.declared.config.Priority.{Priority}
+use Rattle.control.specs.BudgetAllocator.{writersOf}
+use Rattle.control.specs.declared.budget_allocator.WriterInfo.{WriterInfo}
 use Rattle.pacing.specs.Pool.{isShort}
 use Rattle.pacing.specs.declared.coalescing.InstanceKey.{InstanceKey}
 use Rattle.pacing.specs.declared.writer_pacer.SendAction.{SendAction}
-use Rattle.control.specs.BudgetAllocator.{writersOf}
-use Rattle.control.specs.declared.budget_allocator.WriterInfo.{WriterInfo}
 use Rattle.station.specs.Station.{limitsIn, slotsNeeded, registeredStation, eagainStation, nacksStation, tosStation, rttStation, tickedStation, ratedStation, handedStation, poolHanded, sentStation, shownBytes}
 use Rattle.station.specs.declared.station.Station.{Station}
 use Rattle.station.specs.declared.station.StationAnswer.{StationAnswer}

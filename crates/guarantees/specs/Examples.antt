@@ -11,12 +11,6 @@ use Rattle.config.specs.Config.{defaults}
 use Rattle.config.specs.Ledger.{opened}
 use Rattle.config.specs.declared.config.Priority.{Priority}
 use Rattle.config.specs.declared.config.Priority.the-variants.{P0, P1, P2}
-use Rattle.signals.specs.Ecn.{codepointOf, newProcessor, processedTos}
-use Rattle.signals.specs.RttEstimator.{newEstimator, updated, rtoOf}
-use Rattle.signals.specs.declared.ecn.EcnCodepoint.{EcnCodepoint}
-use Rattle.signals.specs.declared.ecn.EcnCodepoint.the-variants.{NotEct, Ect0}
-use Rattle.signals.specs.declared.ecn.Processed.{Processed}
-use Rattle.signals.specs.declared.rtt_estimator.RttEstimator.{RttEstimator}
 use Rattle.control.specs.BudgetAllocator.{allocationConfigOf}
 use Rattle.control.specs.ControllerAlone.{madeOf, eagainAlone, sampledAlone, tickedAlone}
 use Rattle.control.specs.RateController.{paramsOf}
@@ -27,14 +21,20 @@ use Rattle.control.specs.declared.controller.ControllerConfig.{ControllerConfig
 use Rattle.control.specs.declared.controller.ControllerCore.{ControllerCore}
 use Rattle.control.specs.declared.rate_controller.RateParams.{RateParams}
 use Rattle.pacing.specs.Coalescing.{fnv1a}
-use Rattle.pacing.specs.TokenBucket.{made, refilled, tried, told}
 use Rattle.pacing.specs.Pool.{bytesOf, slotsOf}
+use Rattle.pacing.specs.TokenBucket.{made, refilled, tried, told}
 use Rattle.pacing.specs.WriterPacer as pacing
 use Rattle.pacing.specs.WriterPacerAlone.{pacerAloneOf, handedAlone, sentAlone}
 use Rattle.pacing.specs.declared.coalescing.InstanceKey.{InstanceKey}
 use Rattle.pacing.specs.declared.pool.Limits.{Limits}
 use Rattle.pacing.specs.declared.token_bucket.TokenBucket.{TokenBucket}
 use Rattle.pacing.specs.declared.writer_pacer.WriterPacerAlone.{WriterPacerAlone}
+use Rattle.signals.specs.Ecn.{codepointOf, newProcessor, processedTos}
+use Rattle.signals.specs.RttEstimator.{newEstimator, updated, rtoOf}
+use Rattle.signals.specs.declared.ecn.EcnCodepoint.{EcnCodepoint}
+use Rattle.signals.specs.declared.ecn.EcnCodepoint.the-variants.{NotEct, Ect0}
+use Rattle.signals.specs.declared.ecn.Processed.{Processed}
+use Rattle.signals.specs.declared.rtt_estimator.RttEstimator.{RttEstimator}
 
 -- ---- what a row gives and what it gets
 

@@ -12,6 +12,7 @@ use Rattle.config.specs.Refusal.{accepted, queueFull}
 use Rattle.config.specs.declared.config.CongestionConfig.{CongestionConfig}
 use Rattle.config.specs.declared.config.Priority.{Priority}
 use Rattle.config.specs.declared.config.Priority.the-variants.{P0, P1, P2}
+use Rattle.control.specs.declared.budget_allocator.WriterInfo.{WriterInfo}
 use Rattle.pacing.specs.Entries.{queueAt, look}
 use Rattle.pacing.specs.Pool.{isShort, limitsOf, slotStart}
 use Rattle.pacing.specs.Records.{Held, waiting}
@@ -25,7 +26,6 @@ use Rattle.pacing.specs.declared.token_bucket.TokenBucket.{TokenBucket}
 use Rattle.pacing.specs.declared.writer_pacer.SendAction.{SendAction}
 use Rattle.pacing.specs.declared.writer_pacer.SendAction.the-variants.{Send, Empty, RateLimited}
 use Rattle.pacing.specs.declared.writer_pacer.WriterPacerMetrics.{WriterPacerMetrics}
-use Rattle.control.specs.declared.budget_allocator.WriterInfo.{WriterInfo}
 use Rattle.station.specs.Station.{writerAt, pacerIn, limitsIn, slotsNeeded, madeStation, enqueuedIn}
 use Rattle.station.specs.declared.station.Station.{Station}
 use Rattle.guarantees.specs.Book.{Queue, Page, Book, emptyPage, emptyBook, noted, sentIn}

@@ -8,12 +8,12 @@ use Rattle.config.specs.Config.{defaults, settingsWith}
 use Rattle.config.specs.declared.config.CongestionConfig.{CongestionConfig}
 use Rattle.config.specs.declared.config.EcnMode.the-variants.{Opportunistic}
 use Rattle.config.specs.declared.config.Priority.the-variants.{P0, P1, P2}
+use Rattle.control.specs.declared.budget_allocator.WriterInfo.{WriterInfo}
 use Rattle.pacing.specs.Entries.{keyOfHashes, noKey}
 use Rattle.pacing.specs.Pool.{bytesOf, limitsOf}
 use Rattle.pacing.specs.Records.{Held}
 use Rattle.pacing.specs.WriterPacer.{actionValues}
 use Rattle.pacing.specs.declared.coalescing.InstanceKey.{InstanceKey}
-use Rattle.control.specs.declared.budget_allocator.WriterInfo.{WriterInfo}
 use Rattle.station.specs.Station.{slotsNeeded}
 use Rattle.guarantees.specs.Book.{Queue, Page}
 use Rattle.guarantees.specs.Calls.{owed, eagain, tick, Call, register, control, handIn, send, Reply, nothing, signal, unchanged, updates, action, Answer, answers}

@@ -2,7 +2,7 @@
 use Prim.Native.Nat.{ℕ, _*_, _%_, _≤_, _<_}
 use mathlib.Core.Bool.{Bool, true, false, not, Bool·beq, true≢false, false≢true}
 use mathlib.Core.Path.{_≡_, refl, sym, _∙_, subst}
-use borrow.Author.Tests.{lt-ltb, le-ltb}
+use borrow.Author.Tests.{not-true, not-false, lt-ltb, le-ltb}
 use lib.Dec.{T, eqb, eqb-refl}
 use lib.Ieee.{Float, nan, inf, fin, Format, hid, ones, top, up, down, lt, eq, isNan, ofBits, nanBits}
 use lib.Ieee.Bits.{nanBits-is, nanBits-above, is-true}
@@ -32,18 +32,10 @@ equals-itself (inf s) = alike s
 equals-itself (fin s m e) = simp (alike s, is-true (eqb (m * up e * down e) (m * up e * down e)) (eqb-refl (m * up e * down e)))
 
 pub itself : (x : Float) → eq x x ≡ true → isNan x ≡ false
-itself x h = go (isNan x) (sym (equals-itself x) ∙ h)
-  where
-    go : (b : Bool) → not b ≡ true → b ≡ false
-    go true h = absurd (false≢true h)
-    go false h = refl
+itself x h = not-true (isNan x) (sym (equals-itself x) ∙ h)
 
 pub not-itself : (x : Float) → eq x x ≡ false → isNan x ≡ true
-not-itself x h = go (isNan x) (sym (equals-itself x) ∙ h)
-  where
-    go : (b : Bool) → not b ≡ false → b ≡ true
-    go true h = refl
-    go false h = absurd (true≢false h)
+not-itself x h = not-false (isNan x) (sym (equals-itself x) ∙ h)
 
 pub is-a-nan : (x : Float) → eq x x ≡ false → nan ≡ x
 is-a-nan x h = is-nan x (not-itself x h)

@@ -1,8 +1,14 @@
--- A factor of a rate, and Rust's `max`, `clamp` and `abs` of floats, over the operations of IEEE 754 (`lib.Ieee`). Definitions only.
+-- 0 and 1, a factor of a rate, and Rust's `max`, `clamp` and `abs` of floats, over the operations of IEEE 754 (`lib.Ieee`). Definitions only.
 use Prim.Native.Nat.{ℕ}
 use mathlib.Core.Bool.{Bool, true, false, cond}
-use lib.Ieee.{Float, nan, inf, fin, binary32, ofInt, mul, toUnsigned, lt, isNan}
+use lib.Ieee.{Float, nan, inf, fin, binary32, ofInt, ofBits, mul, toUnsigned, lt, isNan}
 use lib.IntN.{pos}
+
+abbrev pub zero32 : Float
+zero32 = ofBits binary32 0
+
+abbrev pub one32 : Float
+one32 = ofBits binary32 0x3f80_0000
 
 -- "A decrease multiplies the rounded f32 rate by the factor": rounded to nearest, ties to even, multiplied in f32, cut to a whole number
 unfoldable pub scaled : ℕ → Float → ℕ

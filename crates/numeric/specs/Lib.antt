@@ -1,3 +1,4 @@
+pub mod Integer
 pub mod Float
 pub mod Duration
 pub mod Search

@@ -186,7 +186,7 @@ counts-apart i j k ne b = go (decLe (suc i) j)
     go (yes q) = inr (omega arith)
     go (no q) = let r : j < i = omega arith in inl (omega arith)
 
-queues-apart : (i : ℕ) (c : Priority) (j : ℕ) (d : Priority) → j ≢ i → queueNumber i c ≢ queueNumber j d
+pub queues-apart : (i : ℕ) (c : Priority) (j : ℕ) (d : Priority) → j ≢ i → queueNumber i c ≢ queueNumber j d
 queues-apart i c j d ne q = ne (omega (arith, class-below c, class-below d))
 
 -- its counts stay

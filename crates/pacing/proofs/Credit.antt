@@ -119,10 +119,6 @@ credit-at-most nanos rate cap P R C = credit-by 1000000000 nanos rate cap (omega
 pub credit-at-most-small : (nanos rate cap : ℕ) → 1 ≤ rate → rate ≤ 1000000000 → cap ≤ 1000000 → min (credit nanos rate) cap * 1000000000 ≤ rate * nanos
 credit-at-most-small nanos rate cap P R C = omega (arith, credit-by 0 nanos rate cap (omega arith) P (omega arith) (omega arith))
 
--- less than one byte is cut off, where the exact credit is up to a million bytes
-pub credit-at-least-small : (nanos rate : ℕ) → 1 ≤ rate → rate ≤ 1000000000 → rate * nanos < 2 ^ 50 → rate * nanos ≤ (credit nanos rate + 1) * 1000000000
-credit-at-least-small nanos rate P R X = omega (arith, credit-below 0 nanos rate (omega arith) P (omega arith) (omega arith))
-
 -- at most two bytes less, where it is up to 2 ^ 50
 pub credit-at-least : (nanos rate : ℕ) → 1 ≤ rate → rate ≤ 1000000000 → rate * nanos ≤ 2 ^ 50 * 1000000000 → rate * nanos ≤ (credit nanos rate + 2) * 1000000000
 credit-at-least nanos rate P R X = omega (arith, credit-below 1000000000 nanos rate (omega arith) P (omega arith) (omega arith))

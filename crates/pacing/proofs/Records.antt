@@ -13,7 +13,8 @@ use Rattle.config.specs.Config.{classNumber}
 use Rattle.config.specs.declared.config.Priority.{Priority}
 use Rattle.config.specs.declared.config.Priority.the-variants.{P0, P1, P2}
 use Rattle.numeric.proofs.Choice.{by-test}
-use Rattle.pacing.specs.Coalescing.{afterNext, found, inserted, queueOf, replacedAt, joinedBy}
+use Rattle.numeric.specs.Integer.{next}
+use Rattle.pacing.specs.Coalescing.{found, inserted, queueOf, replacedAt, joinedBy}
 use Rattle.pacing.specs.Entries.{pacerAt, queueAt, entryAt, entryOf, noKey, look, entered, shaped, mostOf}
 use Rattle.pacing.specs.Pool.{piece, stored, bytesOf, slotsOf, slotStart}
 use Rattle.pacing.specs.Records.{Held, heldOf, held, waiting, limitIn, Book, bookOf, emptyBook, sequenceIn, nextP2After, recordIn, keyed, listAfter, withList, bookHanded, bookSent, Shows, Parts, partsOf, Call, handIn, trySend, setRate, partsAfter, bookAfter, CallShows, AllShown}
@@ -264,7 +265,7 @@ module _ (m : Limits) (i : ℕ) (s : Parts) (b : Book) (ok : Matches m i s b) (c
       (p : PacerCore) → Sound (ringOf (p .queues) c) → ringOf (p .queues) c .limit ≡ limitIn m c
       → ((d : Priority) → classNumber d ≢ classNumber c → ringOf (p .queues) d ≡ ringOf (s .core .queues) d)
       → contents (upd (held m i c words (s .pool)) (kept .slot) (recordIn b c key bytes)) (ringOf (p .queues) c) ≡ listAfter m c key (b .lists c) (recordIn b c key bytes)
-      → p .«next_sequence» ≡ afterNext (b .next) → p .queues .p2 .«next_sequence» ≡ nextP2After b c
+      → p .«next_sequence» ≡ next (b .next) → p .queues .p2 .«next_sequence» ≡ nextP2After b c
       → Matches m i (partsOf p (handInWritten words i c kept (length bytes) key) (handInStored (s .pool) m i c kept bytes)) (bookHanded m b c key bytes)
   unfolding waiting
   kept-matches p sound limit same-rings list next nextP2 =
@@ -333,8 +334,8 @@ module _ (m : Limits) (i : ℕ) (s : Parts) (b : Book) (ok : Matches m i s b) (k
   next-below : (c : Priority) → nextSlot (ringIn c) < limitIn m c
   next-below c = subst (λ (x : ℕ). nextSlot (ringIn c) < x) (ok .limits c) (next-slot-below (ringIn c) (ok .rings c))
 
-  after-next : afterNext (s .core .«next_sequence») ≡ afterNext (b .next)
-  after-next = ap afterNext (ok .next)
+  after-next : next (s .core .«next_sequence») ≡ next (b .next)
+  after-next = ap next (ok .next)
 
   -- P0 with room, and P1
   placed-matches :
@@ -423,10 +424,10 @@ module _ (m : Limits) (i : ℕ) (s : Parts) (b : Book) (ok : Matches m i s b) (k
       kept-matches m i s b ok P2 key bytes n (keptAs Replaced (slotAt (ringIn P2) place) (s .core .queues .p2 .«next_sequence»)) refl
       (subst (λ (x : ℕ). slotAt (ringIn P2) place < x) (ok .limits P2) (slot-below (ringIn P2) place (ok .rings P2)))
       (ok .nextP2)
-      (withP2 (queueOf (ringIn P2) (afterNext (s .core .queues .p2 .«next_sequence»))))
+      (withP2 (queueOf (ringIn P2) (next (s .core .queues .p2 .«next_sequence»))))
       (ok .rings P2) (ok .limits P2)
-      (p2-alone (queueOf (ringIn P2) (afterNext (s .core .queues .p2 .«next_sequence»))))
-      (replaced-list place is test below) after-next (ap afterNext (ok .nextP2))
+      (p2-alone (queueOf (ringIn P2) (next (s .core .queues .p2 .«next_sequence»))))
+      (replaced-list place is test below) after-next (ap next (ok .nextP2))
 
   -- a new key joins the tail
   joined-list :
@@ -442,10 +443,10 @@ module _ (m : Limits) (i : ℕ) (s : Parts) (b : Book) (ok : Matches m i s b) (k
   joined-matches test =
       kept-matches m i s b ok P2 key bytes n (keptAs (joins (ringIn P2)) (nextSlot (ringIn P2)) (s .core .queues .p2 .«next_sequence»)) (joins-in (ringIn P2)) (next-below P2)
       (ok .nextP2)
-      (withP2 (queueOf (pushed (ringIn P2)) (afterNext (s .core .queues .p2 .«next_sequence»))))
+      (withP2 (queueOf (pushed (ringIn P2)) (next (s .core .queues .p2 .«next_sequence»))))
       (sound-pushed (ringIn P2) (ok .rings P2)) (limit-roomy (ringIn P2) ∙ ok .limits P2)
-      (p2-alone (queueOf (pushed (ringIn P2)) (afterNext (s .core .queues .p2 .«next_sequence»))))
-      (joined-list test) after-next (ap afterNext (ok .nextP2))
+      (p2-alone (queueOf (pushed (ringIn P2)) (next (s .core .queues .p2 .«next_sequence»))))
+      (joined-list test) after-next (ap next (ok .nextP2))
 
   p2-matches : Matched P2 (enqueueP2 (numbered (s .core)) (s .words) i key)
   unfolding enqueueP2 inserted

@@ -1,12 +1,13 @@
 -- FNV-1a, 64 bits (the FNV reference by Fowler, Noll and Vo; document 01, coalescing.rs), the keys made with it, and the
 -- coalescing queue. Definitions only.
-use Prim.Native.Nat.{ℕ, _+_, _-_, _*_, _%_, _^_, min}
+use Prim.Native.Nat.{ℕ, _+_, _-_, _*_, _%_, _^_}
 use mathlib.Core.Bool.{Bool, false, cond}
 use mathlib.Core.List.{List, [], _∷_}
 use lib.Bits.{bitXor}
 use lib.Dec.{eqb, ltb}
 use lib.ListN.{getD, set}
 use Rattle.config.specs.declared.config.Priority.the-variants.{P2}
+use Rattle.numeric.specs.Integer.{upToU64, next}
 use Rattle.numeric.specs.Search.{first}
 use Rattle.pacing.specs.Entries.{counted, look}
 use Rattle.pacing.specs.Ring.{newRing, slotAt, popped, placed, keptAs}
@@ -66,19 +67,16 @@ hit r l at key place = sameKey (look l at P2 (slotAt r place) .key) key
 unfoldable pub found : Ring → List ℕ → ℕ → InstanceKey → ℕ
 found r l at key = first (hit r l at key) (r .count)
 
-abbrev pub afterNext : ℕ → ℕ
-afterNext next = min (next + 1) 18446744073709551615
-
 -- "A replacement keeps its place": the ring stays, and so does the slot
 abbrev pub replacedAt : CoalescingQueue → ℕ → Inserted
 replacedAt q place =
     record {
-      queue = queueOf (q .ring) (afterNext (q .«next_sequence»));
+      queue = queueOf (q .ring) (next (q .«next_sequence»));
       kept = keptAs Replaced (slotAt (q .ring) place) (q .«next_sequence»);
     }
 
 abbrev pub joinedBy : CoalescingQueue → Placed → Inserted
-joinedBy q x = record { queue = queueOf (x .ring) (afterNext (q .«next_sequence»)); kept = x .kept }
+joinedBy q x = record { queue = queueOf (x .ring) (next (q .«next_sequence»)); kept = x .kept }
 
 -- where a key was found, or the count
 abbrev pub insertedAt : CoalescingQueue → ℕ → Inserted
@@ -105,7 +103,7 @@ totalBytesAt at = at + 514
 -- the bytes that wait, when some leave and some come
 unfoldable pub exchanged : List ℕ → ℕ → ℕ → ℕ → List ℕ
 exchanged l at leave come =
-    set l (totalBytesAt at) (min (getD l (totalBytesAt at) 0 - leave + come) 18446744073709551615)
+    set l (totalBytesAt at) (upToU64 (getD l (totalBytesAt at) 0 - leave + come))
 
 -- what became of a record of so many bytes, where one of `leave` bytes lay in its slot
 abbrev pub notedBy : List ℕ → ℕ → ℕ → Fate → ℕ → List ℕ

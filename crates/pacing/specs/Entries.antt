@@ -1,15 +1,16 @@
 -- The words that waiting records and metrics lie in: where a queue's entries begin, and what an entry holds. Definitions only.
-use Prim.Native.Nat.{ℕ, _+_, _*_, min}
+use Prim.Native.Nat.{ℕ, _+_, _*_}
 use mathlib.Core.List.{List}
 use lib.ListN.{getD, set}
 use Rattle.config.specs.declared.config.Priority.{Priority}
 use Rattle.config.specs.declared.config.Priority.the-variants.{P0, P1, P2}
+use Rattle.numeric.specs.Integer.{upToU64}
 use Rattle.pacing.specs.declared.coalescing.InstanceKey.{InstanceKey}
 use Rattle.pacing.specs.declared.entries.Entry.{Entry}
 
 -- n more in a word, up to the largest value
 unfoldable pub counted : List ℕ → ℕ → ℕ → List ℕ
-counted l at n = set l at (min (getD l at 0 + n) 18446744073709551615)
+counted l at n = set l at (upToU64 (getD l at 0 + n))
 
 -- a pacer has 1,805 words: 128 and 512 entries of two words, 128 of four, three counts of P2 and ten of its own
 abbrev pub pacerAt : ℕ → ℕ

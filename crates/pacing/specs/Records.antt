@@ -9,7 +9,8 @@ use lib.ListN.{length, set, drop, getD}
 use Rattle.config.specs.Config.{classNumber}
 use Rattle.config.specs.declared.config.Priority.{Priority}
 use Rattle.config.specs.declared.config.Priority.the-variants.{P0, P1, P2}
-use Rattle.pacing.specs.Coalescing.{afterNext, sameKey}
+use Rattle.numeric.specs.Integer.{next}
+use Rattle.pacing.specs.Coalescing.{sameKey}
 use Rattle.pacing.specs.Entries.{queueAt, entryOf, look, noKey, shaped}
 use Rattle.pacing.specs.Pool.{piece, slotStart}
 use Rattle.pacing.specs.Window.{contents, joinList, placeIn}
@@ -68,7 +69,7 @@ sequenceIn b P2 = b .nextP2
 abbrev pub nextP2After : Book → Priority → ℕ
 nextP2After b P0 = b .nextP2
 nextP2After b P1 = b .nextP2
-nextP2After b P2 = afterNext (b .nextP2)
+nextP2After b P2 = next (b .nextP2)
 
 -- a record as it is handed in
 abbrev pub recordIn : Book → Priority → InstanceKey → List ℕ → Held
@@ -91,7 +92,7 @@ withList lists c xs d = cond (eqb (classNumber d) (classNumber c)) xs (lists d)
 -- a hand-in; a full P0 keeps its list (12), and the number is used up
 abbrev pub bookHanded : Limits → Book → Priority → InstanceKey → List ℕ → Book
 bookHanded m b c key bytes =
-    bookOf (withList (b .lists) c (listAfter m c key (b .lists c) (recordIn b c key bytes))) (afterNext (b .next)) (nextP2After b c)
+    bookOf (withList (b .lists) c (listAfter m c key (b .lists c) (recordIn b c key bytes))) (next (b .next)) (nextP2After b c)
 
 -- "`sent` takes its class's first; listed records wait."
 abbrev pub bookSent : Book → SendAction → Book

@@ -12,6 +12,7 @@ use Rattle.config.specs.declared.config.CongestionConfig.{CongestionConfig}
 use Rattle.config.specs.declared.config.Priority.{Priority}
 use Rattle.config.specs.declared.config.Priority.the-variants.{P0, P1, P2}
 use Rattle.config.specs.declared.ledger.Ledger.{Ledger}
+use Rattle.numeric.specs.Integer.{next}
 use Rattle.pacing.specs.Coalescing.{newQueue, queueOf, inserted, exchanged, insertNoted}
 use Rattle.pacing.specs.Entries.{pacerAt, queueAt, counted, entryOf, look, entered}
 use Rattle.pacing.specs.Pool.{limitsOf, slotStart, stored, piece}
@@ -89,7 +90,7 @@ abbrev pub numbered : PacerCore → PacerCore
 numbered p =
     record {
       queues = p .queues;
-      «next_sequence» = min (p .«next_sequence» + 1) 18446744073709551615;
+      «next_sequence» = next (p .«next_sequence»);
       tokens = p .tokens;
     }
 

@@ -260,11 +260,7 @@ pub(crate) fn exchange(words: &mut [u64], at: u32, leave: u64, come: u64)
 {
     let place = at as usize + TOTAL_BYTES;
     let stay = numeric::integer::saturating_sub(entries::get(words, place), leave);
-    entries::put(
-        words,
-        place,
-        numeric::integer::bounded_add(stay, come, 18446744073709551615),
-    );
+    entries::put(words, place, numeric::integer::saturating_add(stay, come));
 }
 
 // The queue's counts after an insert, before the entry is written: a record that gives way lies in the slot that the new one takes.

@@ -37,7 +37,7 @@ pub fn put(words: &mut [u64], at: usize, value: u64)
 pub fn count(words: &mut [u64], at: usize, n: u64)
     ensures { λ _. ⌜ now (words .exit) ≡ counted (now (words .entry)) at n ⌝ }
 {
-    let more = numeric::integer::bounded_add(get(words, at), n, 18446744073709551615);
+    let more = numeric::integer::saturating_add(get(words, at), n);
     put(words, at, more);
 }
 

@@ -1,7 +1,7 @@
 // The bytes of waiting records, in a lent pool of slots of 1,472 bytes.
 ghost use mathlib.Core.Path.{_≡_};
 ghost use Prim.Native.Nat.{_+_, _*_, _<_, min};
-ghost use Rattle.pacing.specs.Pool.{limitOf, limitsOf, slotsOf, slotsBefore, bytesOf, slotStart, isShort, copied, stored, piece};
+ghost use Rattle.pacing.specs.Pool.{limitOf, limitsOf, slotsOf, slotsBefore, slotStart, isShort, copied, stored, piece};
 use config::config::CongestionConfig;
 use config::config::Priority;
 

@@ -4,7 +4,7 @@ ghost use mathlib.Core.Path.{_≡_};
 ghost use lib.ListN.{length};
 ghost use Rattle.config.specs.Refusal.{answerOf};
 ghost use Rattle.config.specs.declared.config.Priority.the-variants.{P2};
-ghost use Rattle.pacing.specs.WriterPacer.{pacerConfigOf, ringOf, withRing, burstOf, made, numbered, placedIn, enqueueP0, enqueueP1, enqueueP2, enqueue, actionNumber, frontOf, gone, attemptP0, paid, waited, limited, attempt, rateSet, countAt, dropNoted, handInNoted, sentNoted, sendNoted, metricsIn, totalBytesIn, handInWritten, handInStored, handedBy, wordsHandedBy, poolHandedBy, sentBy, wordsSentBy, sentBytes};
+ghost use Rattle.pacing.specs.WriterPacer.{pacerConfigOf, ringOf, withRing, burstOf, made, numbered, placedIn, enqueueP0, enqueueP1, enqueueP2, enqueue, actionNumber, frontOf, gone, attemptP0, paid, waited, limited, attempt, rateSet, countAt, countIn, dropNoted, handInNoted, sentNoted, sendNoted, metricsIn, totalBytesIn, handInWritten, handInStored, handedBy, wordsHandedBy, poolHandedBy, sentBy, wordsSentBy, sentBytes};
 ghost use Rattle.pacing.specs.WriterPacerAlone.{defaultKey, makingChecks, handInChecks, sendChecks, zeroPacer, madeAlone, resumedAlone, handedAlone, poolHanded, sentAlone, ratedAlone};
 use crate::coalescing;
 use crate::coalescing::CoalescingQueue;
@@ -588,23 +588,30 @@ fn note_send(words: &mut [u64], i: u8, action: SendAction)
     }
 }
 
+// Count k of pacer i.
+fn count_of(words: &[u64], i: u8, k: u8) -> u64
+    ensures { λ r. ⌜ r ≡ countIn (now (words .entry)) i k ⌝ }
+{
+    entries::get(words, count_at(i, k))
+}
+
 // The metrics of pacer i, as its words hold them.
 pub fn metrics(words: &[u64], i: u8) -> WriterPacerMetrics
     ensures { λ r. ⌜ r ≡ metricsIn (now (words .entry)) i ⌝ }
 {
     WriterPacerMetrics {
-        enqueued_p0: entries::get(words, count_at(i, 3)),
-        enqueued_p1: entries::get(words, count_at(i, 4)),
-        enqueued_p2: entries::get(words, count_at(i, 5)),
-        sent_p0: entries::get(words, count_at(i, 6)),
-        sent_p1: entries::get(words, count_at(i, 7)),
-        sent_p2: entries::get(words, count_at(i, 8)),
-        dropped_p1: entries::get(words, count_at(i, DROPPED_P1)),
-        coalesced_p2: entries::get(words, count_at(i, 0)),
-        dropped_p2: entries::get(words, count_at(i, 1)),
-        bytes_sent: entries::get(words, count_at(i, BYTES_SENT)),
-        rate_limited: entries::get(words, count_at(i, RATE_LIMITED)),
-        force_sends_p0: entries::get(words, count_at(i, FORCE_SENDS_P0)),
+        enqueued_p0: count_of(words, i, 3),
+        enqueued_p1: count_of(words, i, 4),
+        enqueued_p2: count_of(words, i, 5),
+        sent_p0: count_of(words, i, 6),
+        sent_p1: count_of(words, i, 7),
+        sent_p2: count_of(words, i, 8),
+        dropped_p1: count_of(words, i, DROPPED_P1),
+        coalesced_p2: count_of(words, i, 0),
+        dropped_p2: count_of(words, i, 1),
+        bytes_sent: count_of(words, i, BYTES_SENT),
+        rate_limited: count_of(words, i, RATE_LIMITED),
+        force_sends_p0: count_of(words, i, FORCE_SENDS_P0),
     }
 }
 
@@ -612,7 +619,7 @@ pub fn metrics(words: &[u64], i: u8) -> WriterPacerMetrics
 pub fn total_bytes_p2(words: &[u64], i: u8) -> u64
     ensures { λ r. ⌜ r ≡ totalBytesIn (now (words .entry)) i ⌝ }
 {
-    entries::get(words, count_at(i, 2))
+    count_of(words, i, 2)
 }
 
 // The counts, the entry and the bytes of a hand-in are written here and nowhere else.

@@ -229,63 +229,58 @@ impl SmallModules {
         }
     }
 
-    fn play_config(mut self, r: Record) -> Played {
+    fn play_config(self, r: Record) -> Played {
         let played = config_ops::play(self.config, r);
         let config = played.config;
         let line = played.line;
-        self.config = config;
         Played {
-            modules: self,
+            modules: SmallModules { config, ..self },
             line,
         }
     }
 
-    fn play_ecn(mut self, r: Record) -> Played {
+    fn play_ecn(self, r: Record) -> Played {
         let played = ecn_ops::play(self.ecn, r);
         let ecn = played.alone;
         let line = played.line;
-        self.ecn = ecn;
         Played {
-            modules: self,
+            modules: SmallModules { ecn, ..self },
             line,
         }
     }
 
-    fn play_rtt(mut self, r: Record) -> Played {
+    fn play_rtt(self, r: Record) -> Played {
         let played = rtt_ops::play(self.rtt, r);
         let rtt = played.alone;
         let line = played.line;
-        self.rtt = rtt;
         Played {
-            modules: self,
+            modules: SmallModules { rtt, ..self },
             line,
         }
     }
 
-    fn play_peers(mut self, r: Record) -> Played {
+    fn play_peers(self, r: Record) -> Played {
         let played = peers_ops::play(self.peers, r);
         let peers = played.alone;
         let line = played.line;
-        self.peers = peers;
         Played {
-            modules: self,
+            modules: SmallModules { peers, ..self },
             line,
         }
     }
 
-    fn play_bucket(mut self, r: Record) -> Played {
+    fn play_bucket(self, r: Record) -> Played {
         let played = bucket_ops::play(self.bucket, r);
         let bucket = played.alone;
         let line = played.line;
-        self.bucket = bucket;
         Played {
-            modules: self,
+            modules: SmallModules { bucket, ..self },
             line,
         }
     }
 
     fn play_coalescing(
-        mut self,
+        self,
         bytes: &mut [u8; BUFFER_BYTES],
         pool: &mut [u8; POOL_BYTES],
         r: Record,
@@ -293,53 +288,48 @@ impl SmallModules {
         let played = coalescing_ops::play(bytes, pool, self.spans, r);
         let spans = played.spans;
         let line = played.line;
-        self.spans = spans;
         Played {
-            modules: self,
+            modules: SmallModules { spans, ..self },
             line,
         }
     }
 
-    fn play_rate(mut self, r: Record) -> Played {
+    fn play_rate(self, r: Record) -> Played {
         let played = rate_ops::play(self.rate, r);
         let rate = played.alone;
         let line = played.line;
-        self.rate = rate;
         Played {
-            modules: self,
+            modules: SmallModules { rate, ..self },
             line,
         }
     }
 
-    fn play_scorer(mut self, r: Record) -> Played {
+    fn play_scorer(self, r: Record) -> Played {
         let played = scorer_ops::play(self.scorer, self.config, r);
         let scorer = played.alone;
         let line = played.line;
-        self.scorer = scorer;
         Played {
-            modules: self,
+            modules: SmallModules { scorer, ..self },
             line,
         }
     }
 
-    fn play_allocator(mut self, r: Record) -> Played {
+    fn play_allocator(self, r: Record) -> Played {
         let played = allocator_ops::play(self.allocator, self.config, r);
         let allocator = played.alone;
         let line = played.line;
-        self.allocator = allocator;
         Played {
-            modules: self,
+            modules: SmallModules { allocator, ..self },
             line,
         }
     }
 
-    fn play_controller(mut self, r: Record) -> Played {
+    fn play_controller(self, r: Record) -> Played {
         let played = controller_ops::play(self.controller, self.config, r);
         let controller = played.alone;
         let line = played.line;
-        self.controller = controller;
         Played {
-            modules: self,
+            modules: SmallModules { controller, ..self },
             line,
         }
     }

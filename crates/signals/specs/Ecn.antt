@@ -1,9 +1,10 @@
 -- Explicit congestion notification (RFC 3168; document 01, ecn.rs). Definitions only.
-use Prim.Native.Nat.{ℕ, _+_, _%_, min}
+use Prim.Native.Nat.{ℕ, _%_}
 use mathlib.Core.Bool.{Bool, true, false, cond}
 use lib.Dec.{leb, eqb}
 use lib.Ieee.{binary64, ofInt, ofBits, div, le}
 use lib.IntN.{pos}
+use Rattle.numeric.specs.Integer.{next, nextU32 as nextInWindow}
 use Rattle.signals.specs.declared.ecn.EcnCodepoint.{EcnCodepoint}
 use Rattle.signals.specs.declared.ecn.EcnCodepoint.the-variants.{NotEct, Ect1, Ect0, Ce}
 use Rattle.signals.specs.declared.ecn.EcnProcessor.{EcnProcessor}
@@ -34,13 +35,6 @@ isCe NotEct = false
 isCe Ect1 = false
 isCe Ect0 = false
 isCe Ce = true
-
--- one more, stopping at the largest u64 or u32
-abbrev pub next : ℕ → ℕ
-next n = min (n + 1) 18446744073709551615
-
-abbrev pub nextInWindow : ℕ → ℕ
-nextInWindow n = min (n + 1) 4294967295
 
 abbrev pub statsOf : ℕ → ℕ → ℕ → ℕ → ℕ → ℕ → EcnStats
 statsOf packets ect0 ect1 ce not-ect answered =

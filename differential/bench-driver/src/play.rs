@@ -11,7 +11,7 @@ pub mod config;
 #[path = "../../oracle/src/play/controller.rs"]
 pub mod controller;
 #[path = "../../oracle/src/play/ecn.rs"]
-mod ecn;
+pub mod ecn;
 #[path = "../../oracle/src/play/numeric.rs"]
 mod numeric;
 #[path = "../../oracle/src/play/pacer.rs"]

@@ -40,6 +40,15 @@ impl Random {
         from[self.below(from.len() as u64) as usize]
     }
 
+    /// Which of N faults a call has: none, mostly; in `percent` of the calls one or more.
+    pub fn faults<const N: usize>(&mut self, percent: u64) -> [bool; N] {
+        if self.percent(percent) {
+            std::array::from_fn(|_| self.percent(45))
+        } else {
+            [false; N]
+        }
+    }
+
     /// A number of a random length of at most `bits` bits.
     pub fn of_bits(&mut self, bits: u64) -> u64 {
         let length = self.below(bits + 1);

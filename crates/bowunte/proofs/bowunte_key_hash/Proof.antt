@@ -1,8 +1,8 @@
 use mathlib.Core.Path.{refl}
+use borrow.Author.Needs.{needs}
 use borrow.Author.Tests.{lt-ltb, le-ltb}
 use Rattle.config.specs.Refusal.{answerOf}
 use Rattle.bowunte.specs.Doors.{hashAnswer, outLeft}
-use borrow.Author.Needs.{needs}
 use Rattle.bowunte.proofs.bowunte_key_hash.Statement.{statement}
 use Rattle.bowunte.proofs.bowunte_key_hash.Tie as tie
 

@@ -1,7 +1,7 @@
 use mathlib.Core.Path.{refl}
+use borrow.Author.Needs.{needs}
 use borrow.Author.Tests.{ne-eqb}
 use Rattle.bowunte.specs.Doors.{outLeft}
-use borrow.Author.Needs.{needs}
 use Rattle.bowunte.proofs.bowunte_rate_decrease.Statement.{statement}
 use Rattle.bowunte.proofs.bowunte_rate_decrease.Tie as tie
 

@@ -1,9 +1,9 @@
 use mathlib.Core.Path.{refl}
+use borrow.Author.Needs.{needs}
 use borrow.Author.Tests.{lt-ltb, le-ltb}
 use Rattle.config.specs.Refusal.{answerOf}
 use Rattle.bowunte.specs.Doors.{tapeAnswer, linesLeftBy, outLeft}
 use Rattle.bowunte.proofs.Results.{tape-refused, tape-ran}
-use borrow.Author.Needs.{needs}
 use Rattle.bowunte.proofs.bowunte_tape_run.Statement.{statement}
 use Rattle.bowunte.proofs.bowunte_tape_run.Tie as tie
 

@@ -1,6 +1,6 @@
+use borrow.Author.Needs.{needs}
 use borrow.Author.Tests.{eq-eqb, ne-eqb}
 use Rattle.bowunte.specs.Doors.{byteOf}
-use borrow.Author.Needs.{needs}
 use Rattle.bowunte.proofs.byte_of.Statement.{statement}
 use Rattle.bowunte.proofs.byte_of.Tie as tie
 

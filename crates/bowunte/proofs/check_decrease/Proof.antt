@@ -1,7 +1,7 @@
+use borrow.Author.Needs.{needs}
 use borrow.Author.Tests.{lt-ltb, le-ltb}
 use Rattle.config.specs.Refusal.{answerOf}
 use Rattle.bowunte.specs.Doors.{decreaseAnswer}
-use borrow.Author.Needs.{needs}
 use Rattle.bowunte.proofs.check_decrease.Statement.{statement}
 use Rattle.bowunte.proofs.check_decrease.Tie as tie
 

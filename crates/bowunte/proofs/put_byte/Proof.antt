@@ -1,6 +1,6 @@
 use mathlib.Core.Path.{sym}
-use lib.Seq.{set-out}
 use borrow.Author.Needs.{needs}
+use lib.Seq.{set-out}
 use Rattle.bowunte.proofs.put_byte.Statement.{statement}
 use Rattle.bowunte.proofs.put_byte.Tie as tie
 

@@ -1,8 +1,8 @@
 use mathlib.Core.Path.{_∙_}
+use borrow.Author.Needs.{needs}
 use borrow.Author.Tests.{lt-ltb, le-ltb}
 use Rattle.bowunte.specs.Doors.{shown}
 use Rattle.bowunte.proofs.Results.{eight}
-use borrow.Author.Needs.{needs}
 use Rattle.bowunte.proofs.put_result.Statement.{statement}
 use Rattle.bowunte.proofs.put_result.Tie as tie
 

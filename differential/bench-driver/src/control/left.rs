@@ -3,10 +3,10 @@
 use crate::clock::Instant;
 use crate::congestion::controller::CongestionController;
 use crate::congestion::ecn::EcnProcessor;
-use crate::congestion::rate_controller::RateController;
 use crate::congestion::rtt_estimator::RttEstimator;
 use crate::congestion::scorer::{CongestionScorer, ScorerState};
 use crate::measure::mix;
+use crate::play::{ecn, rate};
 
 pub fn bits(x: f32) -> u64 {
     x.to_bits().into()
@@ -28,20 +28,7 @@ pub fn mix_estimator(sum: u64, estimator: &RttEstimator) -> u64 {
 }
 
 pub fn mix_processor(sum: u64, processor: &EcnProcessor) -> u64 {
-    let stats = processor.stats();
-    all(
-        sum,
-        [
-            stats.packets_received,
-            stats.ect0_received,
-            stats.ect1_received,
-            stats.ce_received,
-            stats.not_ect_received,
-            stats.ce_responded,
-            processor.ce_in_window().into(),
-            processor.packets_in_window().into(),
-        ],
-    )
+    all(sum, ecn::state(processor))
 }
 
 fn mix_scorer(sum: u64, scorer: &CongestionScorer) -> u64 {
@@ -68,29 +55,12 @@ fn mix_scorer(sum: u64, scorer: &CongestionScorer) -> u64 {
     )
 }
 
-fn mix_rate_controller(sum: u64, controller: &RateController) -> u64 {
-    let metrics = controller.metrics();
-    all(
-        sum,
-        [
-            controller.last_change().nanoseconds(),
-            metrics.increases,
-            metrics.decreases_soft,
-            metrics.decreases_hard,
-            metrics.capacity_lost,
-            metrics.capacity_gained,
-            metrics.peak_rate.into(),
-            metrics.min_rate_reached.into(),
-        ],
-    )
-}
-
 pub fn mix_controller(sum: u64, controller: &CongestionController) -> u64 {
     let (allocator, metrics) = (controller.allocator(), controller.metrics());
     let stats = allocator.stats();
     let shared_out = [stats.reallocations, stats.writers_registered, stats.total_distributed_bps];
     let sum = all(mix(sum, allocator.global_budget().into()), shared_out);
-    let sum = mix_rate_controller(mix_scorer(sum, controller.scorer()), controller.rate_controller());
+    let sum = all(mix_scorer(sum, controller.scorer()), rate::history(controller.rate_controller()));
     let processor = controller.ecn_processor().expect("ECN is on");
     all(
         mix_processor(sum, processor),

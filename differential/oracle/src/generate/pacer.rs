@@ -392,7 +392,6 @@ impl Traffic {
 }
 
 /// What is wrong with a call.
-#[derive(Default)]
 struct Faults {
     time: bool,
     length: bool,
@@ -401,17 +400,13 @@ struct Faults {
 }
 
 impl Faults {
-    /// None, mostly; in `percent` of the calls one or more.
     fn new(random: &mut Random, percent: u64) -> Self {
-        if !random.percent(percent) {
-            return Self::default();
-        }
-        let mut fault = || random.percent(45);
+        let [time, length, pool, rate] = random.faults(percent);
         Self {
-            time: fault(),
-            length: fault(),
-            pool: fault(),
-            rate: fault(),
+            time,
+            length,
+            pool,
+            rate,
         }
     }
 }

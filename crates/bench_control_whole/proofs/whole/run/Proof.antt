@@ -1,7 +1,7 @@
 -- `run` is safe and ends: the measure is the number of calls that are left.
+use Prim.Native.Nat.{_≤_, _-_}
 use borrow.Author.Needs.{needs}
 use lib.ListN.{length}
-use Prim.Native.Nat.{_≤_, _-_}
 use Rattle.bench_control_whole.proofs.whole.run.Statement.{statement}
 use Rattle.bench_control_whole.proofs.whole.run.Tie as tie
 

@@ -1,10 +1,10 @@
 -- `run` is safe and ends: the measure is the number of calls that are left, and the pool keeps its length.
-use borrow.Author.Needs.{needs}
-use lib.ListN.{length}
-use native.Mathlib.Omega.{arith}
-use Prim.Native.Nat.{_≤_, _<_, _-_}
+use Prim.Native.Nat.{_≤_, _-_}
 use mathlib.Core.Logic.{⊎-elim}
 use mathlib.Core.Path.{_≡_, _∙_}
+use native.Mathlib.Omega.{arith}
+use borrow.Author.Needs.{needs}
+use lib.ListN.{length}
 use Rattle.bench_parts.proofs.parts.run.Statement.{statement}
 use Rattle.bench_parts.proofs.parts.run.Tie as tie
 

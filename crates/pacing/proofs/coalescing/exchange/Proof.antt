@@ -12,8 +12,8 @@ get-requires c κs = search needs
 saturating-sub-requires : tie.Need-saturating-sub-requires
 saturating-sub-requires c κs = search needs
 
-bounded-add-requires : tie.Need-bounded-add-requires
-bounded-add-requires c κs = search needs
+saturating-add-requires : tie.Need-saturating-add-requires
+saturating-add-requires c κs = search needs
 
 put-requires : tie.Need-put-requires
 put-requires c κs = search needs
@@ -23,7 +23,7 @@ same-length c = search needs
 
 returns : tie.Need-returns
 unfolding exchanged
-returns c = rw (← c .before .before .before .before .before .before .get .ensures, ← c .before .before .before .before .before .saturating-sub .ensures, ← c .before .before .before .bounded-add .ensures, ← c .before .before .put .ensures)
+returns c = rw (← c .before .before .before .before .before .before .get .ensures, ← c .before .before .before .before .before .saturating-sub .ensures, ← c .before .before .before .saturating-add .ensures, ← c .before .before .put .ensures)
 
 pub exchange-spec : {M : Type 1} → statement M
 exchange-spec =
@@ -32,7 +32,7 @@ exchange-spec =
     add-place
     get-requires
     saturating-sub-requires
-    bounded-add-requires
+    saturating-add-requires
     put-requires
     same-length
     returns)

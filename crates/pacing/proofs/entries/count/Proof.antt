@@ -6,8 +6,8 @@ use Rattle.pacing.proofs.entries.count.Tie as tie
 get-requires : tie.Need-get-requires
 get-requires c κs = search needs
 
-bounded-add-requires : tie.Need-bounded-add-requires
-bounded-add-requires c κs = search needs
+saturating-add-requires : tie.Need-saturating-add-requires
+saturating-add-requires c κs = search needs
 
 put-requires : tie.Need-put-requires
 put-requires c κs = search needs
@@ -17,8 +17,8 @@ same-length c = search needs
 
 returns : tie.Need-returns
 unfolding counted
-returns c = rw (← c .before .before .before .before .before .get .ensures, ← c .before .before .before .before .bounded-add .ensures, ← c .before .before .put .ensures)
+returns c = rw (← c .before .before .before .before .before .get .ensures, ← c .before .before .before .before .saturating-add .ensures, ← c .before .before .put .ensures)
 
 pub count-spec : {M : Type 1} → statement M
 count-spec =
-    tie.close (tie.spec get-requires bounded-add-requires put-requires same-length returns)
+    tie.close (tie.spec get-requires saturating-add-requires put-requires same-length returns)

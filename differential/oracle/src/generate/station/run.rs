@@ -99,7 +99,6 @@ impl Traffic {
 }
 
 /// What is wrong with a call.
-#[derive(Default)]
 struct Faults {
     time: bool,
     /// A record, a sample or a rate beyond its range.
@@ -109,17 +108,13 @@ struct Faults {
 }
 
 impl Faults {
-    /// None, mostly; in `percent` of the calls one or more.
     fn new(random: &mut Random, percent: u64) -> Self {
-        if !random.percent(percent) {
-            return Self::default();
-        }
-        let mut fault = || random.percent(45);
+        let [time, beyond, pool, pacer] = random.faults(percent);
         Self {
-            time: fault(),
-            beyond: fault(),
-            pool: fault(),
-            pacer: fault(),
+            time,
+            beyond,
+            pool,
+            pacer,
         }
     }
 }

@@ -1,20 +1,14 @@
-use Prim.Native.Nat.{ℕ}
 use mathlib.Core.Path.{sym, _∙_, ap}
-use native.Mathlib.Omega.{arith}
 use borrow.Author.Needs.{needs}
 use Rattle.config.specs.Config.{settingsChecks, checkedBy}
 use Rattle.config.specs.Refusal.{answerOf}
 use Rattle.config.specs.declared.config.ConfigAnswer.{ConfigAnswer}
-use Rattle.config.specs.declared.config.CongestionConfig.{CongestionConfig}
-use Rattle.config.proofs.Refusals.{Numbered, chain-on, chain-stop}
+use Rattle.config.proofs.Refusals.{settings-numbered, chain-on, chain-stop}
 use Rattle.config.proofs.config.CongestionConfig.check_making.Statement.{statement}
 use Rattle.config.proofs.config.CongestionConfig.check_making.Tie as tie
 
 check-requires : tie.Need-check-requires
 check-requires c κs = search needs
-
-numbered : (c : CongestionConfig) → Numbered (settingsChecks c)
-numbered c = (omega arith, (omega arith, tt))
 
 returns : tie.Need-returns
 unfolding answerOf checkedBy
@@ -27,7 +21,7 @@ check-time-requires c κs = search needs
 returns-2 : tie.Need-returns-2
 unfolding answerOf checkedBy
 returns-2 c = let e = ap (λ (x : ConfigAnswer). x .answer) (c .before .before .before .check .ensures) in
-    sym (chain-on (settingsChecks (c .before .before .before .before .args .self)) _ (numbered (c .before .before .before .before .args .self)) (sym e ∙ c .before .if1 .left) ∙ rw (← c .check-time .ensures))
+    sym (chain-on (settingsChecks (c .before .before .before .before .args .self)) _ (settings-numbered (c .before .before .before .before .args .self)) (sym e ∙ c .before .if1 .left) ∙ rw (← c .check-time .ensures))
 
 pub check-making-spec : {M : Type 1} → statement M
 check-making-spec = tie.close (tie.spec check-requires returns check-time-requires returns-2)

@@ -29,11 +29,11 @@ mul-row c = search needs
 element-copy-out-row : tie.Need-element-copy-out-row Inv-loop μ-loop
 element-copy-out-row c = search needs
 
-cast-bounded-add : tie.Need-cast-bounded-add Inv-loop μ-loop
-cast-bounded-add c = search needs
+cast-saturating-add : tie.Need-cast-saturating-add Inv-loop μ-loop
+cast-saturating-add c = search needs
 
-bounded-add-requires : tie.Need-bounded-add-requires Inv-loop μ-loop
-bounded-add-requires c κs = search needs
+saturating-add-requires : tie.Need-saturating-add-requires Inv-loop μ-loop
+saturating-add-requires c κs = search needs
 
 add-k : tie.Need-add-k Inv-loop μ-loop
 add-k c = search needs
@@ -46,7 +46,7 @@ unfolding distributedFrom
 loop-again c = let l = c .before .before .before .before .loop in let t = c .before .before .before .before .before .before .args .t1 in
     let long : length (c .before .before .before .before .before .before .args .t1 .rows) ≡ 64 = simp length-map at (c .before .before .before .before .before .before .good .0 .1 .1 .0 .1 .0 .1) in
     let below : l .k < takenOf (t .count) = omega (arith, c .before .before .before .before .before .taken .ensures) in
-    (omega arith, rw (c .bounded-add .ensures, add-one (l .k)) (subst (λ (ws : List WriterInfo). distributedFrom (l .total) ws ≡ distributedFrom (c .before .before .before .before .before .before .args .sum) (writersOf t)) (rows-from (t .rows) (takenOf (t .count)) (l .k) noWriter below (omega arith)) (l .inv .1)))
+    (omega arith, rw (c .saturating-add .ensures, add-one (l .k)) (subst (λ (ws : List WriterInfo). distributedFrom (l .total) ws ≡ distributedFrom (c .before .before .before .before .before .before .args .sum) (writersOf t)) (rows-from (t .rows) (takenOf (t .count)) (l .k) noWriter below (omega arith)) (l .inv .1)))
 
 returns : tie.Need-returns Inv-loop μ-loop
 unfolding distributedFrom
@@ -63,8 +63,8 @@ distributed-spec =
     loop-holds
     mul-row
     element-copy-out-row
-    cast-bounded-add
-    bounded-add-requires
+    cast-saturating-add
+    saturating-add-requires
     add-k
     loop-less
     loop-again

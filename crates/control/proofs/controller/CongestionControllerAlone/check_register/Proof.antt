@@ -1,9 +1,8 @@
 use mathlib.Core.Path.{sym, _∙_}
 use borrow.Author.Needs.{needs}
-use Rattle.config.proofs.Refusals.{chain-on, chain-stop}
+use Rattle.config.proofs.Refusals.{counted-numbered, chain-on, chain-stop}
 use Rattle.config.specs.Ledger.{countedChecks}
 use Rattle.config.specs.Refusal.{answerOf}
-use Rattle.control.proofs.Counted.{counted-numbered}
 use Rattle.control.proofs.controller.CongestionControllerAlone.check_register.Statement.{statement}
 use Rattle.control.proofs.controller.CongestionControllerAlone.check_register.Tie as tie
 

@@ -9,18 +9,18 @@ saturating-sub-u32-requires c κs = search needs
 increment-requires : tie.Need-increment-requires
 increment-requires c κs = search needs
 
-cast-bounded-add : tie.Need-cast-bounded-add
-cast-bounded-add c = search needs
+cast-saturating-add : tie.Need-cast-saturating-add
+cast-saturating-add c = search needs
 
-bounded-add-requires : tie.Need-bounded-add-requires
-bounded-add-requires c κs = search needs
+saturating-add-requires : tie.Need-saturating-add-requires
+saturating-add-requires c κs = search needs
 
 max-u32-requires : tie.Need-max-u32-requires
 max-u32-requires c κs = search needs
 
 returns : tie.Need-returns
 unfolding gainedFrom
-returns c = rw (← c .before .before .before .saturating-sub-u32 .ensures, ← c .before .before .increment .ensures, ← c .before .bounded-add .ensures, ← c .max-u32 .ensures)
+returns c = rw (← c .before .before .before .saturating-sub-u32 .ensures, ← c .before .before .increment .ensures, ← c .before .saturating-add .ensures, ← c .max-u32 .ensures)
 
 pub gained-spec : {M : Type 1} → statement M
 gained-spec =
@@ -28,7 +28,7 @@ gained-spec =
     (tie.spec
     saturating-sub-u32-requires
     increment-requires
-    cast-bounded-add
-    bounded-add-requires
+    cast-saturating-add
+    saturating-add-requires
     max-u32-requires
     returns)

@@ -1,6 +1,6 @@
-use Rattle.control.specs.RateControllerAlone.{factorOut}
-use Rattle.control.proofs.rate_controller.factor_out.Statement.{statement}
-use Rattle.control.proofs.rate_controller.factor_out.Tie as tie
+use Rattle.config.specs.Config.{factorOut}
+use Rattle.config.proofs.config.factor_out.Statement.{statement}
+use Rattle.config.proofs.config.factor_out.Tie as tie
 
 returns : tie.Need-returns
 unfolding factorOut
