@@ -1,6 +1,6 @@
 -- Round-trip times (document 01, rtt_estimator.rs; RFC 6298, section 2): f32, alpha 0.125, beta 0.25. Definitions only.
 use Prim.Native.Nat.{ℕ, _+_, min}
-use mathlib.Core.Bool.{Bool, false, cond}
+use mathlib.Core.Bool.{Bool, true, false, cond}
 use mathlib.Core.List.{List}
 use lib.Dec.{ltb, leb, eqb}
 use lib.Ieee.{Float, nan, binary32, ofBits, add, sub, mul, div, lt}
@@ -9,7 +9,9 @@ use Rattle.config.specs.declared.moment.Moment.{Moment}
 use Rattle.config.specs.declared.moment.Moment.the-variants.{Never, At}
 use Rattle.numeric.specs.Float.{maxOf, absOf}
 use Rattle.numeric.specs.Search.{first}
+use Rattle.signals.specs.declared.rtt_estimator.PeerRow.{PeerRow}
 use Rattle.signals.specs.declared.rtt_estimator.PeerRttTracker.{PeerRttTracker}
+use Rattle.signals.specs.declared.rtt_estimator.RowEntered.{RowEntered}
 use Rattle.signals.specs.declared.rtt_estimator.RttEstimator.{RttEstimator}
 
 abbrev zero32 : Float
@@ -122,6 +124,31 @@ trackerUpdated t time id x =
 unfoldable pub fullFor : PeerRttTracker → ℕ → Bool
 fullFor t id =
     cond (ltb (placeOf (t .ids) (t .count) id) (knownOf (t .count))) false (leb 64 (knownOf (t .count)))
+
+-- ---- the same on one row of the table
+
+abbrev pub rowOf : ℕ → RttEstimator → ℕ → Float → PeerRow
+rowOf id e count x = record { id = id; estimator = e; count = count; «default_ms» = x }
+
+-- the place that a peer's sample goes to: its own or the next, and the last where there is none
+unfoldable pub seatOf : List ℕ → ℕ → ℕ → ℕ
+seatOf ids count id = min (placeOf ids count id) 63
+
+abbrev pub rowAt : PeerRttTracker → ℕ → PeerRow
+rowAt t k = rowOf (getD (t .ids) k 0) (estimatorAt t k) (t .count) (t .«default_ms»)
+
+abbrev pub withRow : PeerRttTracker → ℕ → PeerRow → PeerRttTracker
+withRow t k r = trackerOf (set (t .ids) k (r .id)) (set (t .peers) k (r .estimator)) (r .count) (t .«default_ms»)
+
+abbrev pub rowWith : PeerRow → Bool → RowEntered
+rowWith r full = record { row = r; full = full }
+
+-- a new peer's first, a known one's next, or one that is passed by
+unfoldable pub rowEntered : PeerRow → ℕ → ℕ → ℕ → Float → RowEntered
+rowEntered r k time id x =
+    cond (leb (knownOf (r .count)) k)
+    (rowWith (rowOf id (updated (newEstimator (r .«default_ms»)) time x) (knownOf (r .count) + 1) (r .«default_ms»)) false)
+    (cond (eqb (r .id) id) (rowWith (rowOf (r .id) (updated (r .estimator) time x) (r .count) (r .«default_ms»)) false) (rowWith r true))
 
 abbrev pub inflatedAt : PeerRttTracker → ℕ → Bool
 inflatedAt t k = inflated (estimatorAt t k)

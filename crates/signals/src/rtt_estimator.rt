@@ -1,7 +1,8 @@
 // Round-trip times: an average, its variance and the least sample, for one peer and for up to 64.
 ghost use mathlib.Core.Path.{_≡_};
+ghost use Prim.Native.Nat.{_<_};
 ghost use Rattle.config.specs.Refusal.{answerOf};
-ghost use Rattle.signals.specs.RttEstimator.{lesserOf, newEstimator, updated, inflated, rtoOf, placeOf, knownOf, newTracker, trackerUpdated, fullFor, anyInflated, idAt, shownAt};
+ghost use Rattle.signals.specs.RttEstimator.{lesserOf, newEstimator, updated, inflated, rtoOf, placeOf, knownOf, newTracker, seatOf, rowEntered, trackerUpdated, fullFor, anyInflated, idAt, shownAt};
 ghost use Rattle.signals.specs.RttEstimatorAlone.{sampleOut, sampleChecks, peerChecks, newAlone, resumedAlone, answeredBy, updatedAlone, newTrackerAlone, resumedTracker, trackerUpdatedAlone};
 use config::ledger::Ledger;
 use config::moment::Moment;
@@ -126,10 +127,24 @@ impl RttEstimator {
 
 // Up to 64 peers in the order they were entered.
 pub struct PeerRttTracker {
-    pub(crate) ids: [u32; 64],
-    pub(crate) peers: [RttEstimator; 64],
-    pub(crate) count: u16,
-    pub(crate) default_ms: f32,
+    pub ids: [u32; 64],
+    pub peers: [RttEstimator; 64],
+    pub count: u16,
+    pub default_ms: f32,
+}
+
+// One place of a tracker, its count and its default: all that a sample reads once its place is known, and more than it changes.
+pub struct PeerRow {
+    pub id: u32,
+    pub estimator: RttEstimator,
+    pub count: u16,
+    pub default_ms: f32,
+}
+
+// A row after a sample, and whether the tracker was full for the peer, and so stays.
+pub struct RowEntered {
+    pub row: PeerRow,
+    pub full: bool,
 }
 
 // A tracker after a sample, and whether it was full for the peer, and so stays.
@@ -167,6 +182,53 @@ fn place_of(ids: &[u32; 64], count: u16, peer_id: u32) -> usize
     place
 }
 
+// The place that a peer's sample goes to: its own, or the next free one; in a full table that a new peer cannot enter, the last.
+pub fn seat_of(ids: &[u32; 64], count: u16, peer_id: u32) -> usize
+    ensures { λ r. ⌜ r ≡ seatOf (now (ids .entry)) count «peer_id» ⌝ }
+    ensures { λ r. ⌜ r < 64 ⌝ }
+{
+    let at = place_of(ids, count, peer_id);
+    if at < MOST_PEERS {
+        return at;
+    }
+    MOST_PEERS - 1
+}
+
+impl PeerRow {
+    // One sample more for a peer, in the row of the place that it goes to. A loop that keeps a tracker reads and writes the row itself: to
+    // hand the table to a function copies it.
+    pub fn enter(self, at: usize, time: u64, peer_id: u32, rtt_ms: f32) -> RowEntered
+        ensures { λ r. ⌜ r ≡ rowEntered self at time «peer_id» «rtt_ms» ⌝ }
+    {
+        let n = known(self.count);
+        if n <= at {
+            let peer = RttEstimator::new(self.default_ms);
+            return RowEntered {
+                row: PeerRow {
+                    id: peer_id,
+                    estimator: peer.update(time, rtt_ms),
+                    count: n as u16 + 1,
+                    ..self
+                },
+                full: false,
+            };
+        }
+        if self.id == peer_id {
+            return RowEntered {
+                row: PeerRow {
+                    estimator: self.estimator.update(time, rtt_ms),
+                    ..self
+                },
+                full: false,
+            };
+        }
+        RowEntered {
+            row: self,
+            full: true,
+        }
+    }
+}
+
 impl PeerRttTracker {
     pub fn new(default_ms: f32) -> PeerRttTracker
         ensures { λ r. ⌜ r ≡ newTracker «default_ms» ⌝ }
@@ -193,29 +255,24 @@ impl PeerRttTracker {
         ensures { λ r. ⌜ r .tracker ≡ trackerUpdated self time «peer_id» «rtt_ms» ⌝ }
         ensures { λ r. ⌜ r .full ≡ fullFor self «peer_id» ⌝ }
     {
-        let n = known(self.count);
-        let at = place_of(&self.ids, self.count, peer_id);
-        if at < n {
-            let peer = self.peers[at];
-            self.peers[at] = peer.update(time, rtt_ms);
-            return Entered {
-                tracker: self,
-                full: false,
-            };
-        }
-        if n < MOST_PEERS {
-            let peer = RttEstimator::new(self.default_ms);
-            self.ids[n] = peer_id;
-            self.peers[n] = peer.update(time, rtt_ms);
-            self.count = n as u16 + 1;
-            return Entered {
-                tracker: self,
-                full: false,
-            };
-        }
+        let at = seat_of(&self.ids, self.count, peer_id);
+        let id = self.ids[at];
+        let estimator = self.peers[at];
+        let row = PeerRow {
+            id,
+            estimator,
+            count: self.count,
+            default_ms: self.default_ms,
+        };
+        let entered = row.enter(at, time, peer_id, rtt_ms);
+        let after = entered.row;
+        let peer = after.estimator;
+        self.ids[at] = after.id;
+        self.peers[at] = peer;
+        self.count = after.count;
         Entered {
             tracker: self,
-            full: true,
+            full: entered.full,
         }
     }
 

@@ -11,9 +11,11 @@ use Rattle.config.specs.declared.config.Priority.{Priority}
 use Rattle.config.specs.declared.ledger.Ledger.{Ledger}
 use Rattle.pacing.specs.WriterPacerAlone as alone
 use Rattle.pacing.specs.declared.writer_pacer.PacerConfig.{PacerConfig}
-use Rattle.signals.specs.RttEstimator.{trackerUpdated, fullFor}
+use Rattle.signals.specs.RttEstimator.{rowEntered, trackerUpdated, fullFor}
 use Rattle.signals.specs.RttEstimatorAlone.{sampleChecks}
+use Rattle.signals.specs.declared.rtt_estimator.PeerRow.{PeerRow}
 use Rattle.signals.specs.declared.rtt_estimator.PeerRttTracker.{PeerRttTracker}
+use Rattle.signals.specs.declared.rtt_estimator.RowEntered.{RowEntered}
 use Rattle.control.specs.BudgetAllocator.{one, registered, reallocated}
 use Rattle.control.specs.Controller.{onEagain, onNacks, onEcnTos, coreTicked, coreSet, controllerOf}
 use Rattle.control.specs.declared.budget_allocator.BudgetAllocator.{BudgetAllocator}
@@ -24,6 +26,7 @@ use Rattle.control.specs.declared.controller.Marked.{Marked}
 use Rattle.station.specs.Station.{slotsNeeded, stationOf, answerWith, isHere, joined, writerOf, firstPacer, budgetedAll}
 use Rattle.station.specs.declared.parts.CoreLeft.{CoreLeft}
 use Rattle.station.specs.declared.parts.RosterLeft.{RosterLeft}
+use Rattle.station.specs.declared.parts.RowLeft.{RowLeft}
 use Rattle.station.specs.declared.parts.SharedOut.{SharedOut}
 use Rattle.station.specs.declared.parts.TrackerLeft.{TrackerLeft}
 use Rattle.station.specs.declared.roster.Roster.{Roster}
@@ -114,6 +117,19 @@ sampledTracker l c t time peer rtt =
     cond (eqb (answerOf (rttChecksOn l c t time peer rtt)) 0)
     (cond (c .enabled) (trackerLeft 0 (moved l time) (trackerUpdated t time peer rtt)) (trackerLeft 0 (moved l time) t))
     (trackerLeft (answerOf (rttChecksOn l c t time peer rtt)) l t)
+
+-- the same on the row of the place that the sample goes to
+abbrev pub rowLeft : ℕ → Ledger → PeerRow → RowLeft
+rowLeft answer l r = record { answer = answer; ledger = l; row = r }
+
+abbrev pub enteredLeft : Ledger → ℕ → RowEntered → RowLeft
+enteredLeft l time e = cond (e .full) (rowLeft tableFull l (e .row)) (rowLeft 0 (moved l time) (e .row))
+
+unfoldable pub sampledRow : Ledger → ControllerConfig → PeerRow → ℕ → ℕ → ℕ → Float → RowLeft
+sampledRow l c r k time peer rtt =
+    cond (eqb (answerOf (sampleChecks l time rtt)) 0)
+    (cond (c .enabled) (enteredLeft l time (rowEntered r k time peer rtt)) (rowLeft 0 (moved l time) r))
+    (rowLeft (answerOf (sampleChecks l time rtt)) l r)
 
 -- 7, 17, 11, 16 and 14
 abbrev pub registerChecksOn : Ledger → Roster → ℕ → ℕ → List Check

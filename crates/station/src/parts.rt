@@ -5,7 +5,7 @@ ghost use lib.ListN.{length};
 ghost use Rattle.config.specs.Refusal.{answerOf};
 ghost use Rattle.pacing.specs.WriterPacer.{handedBy, wordsHandedBy, poolHandedBy, sentBy, wordsSentBy};
 ghost use Rattle.station.specs.Station.{slotsNeeded};
-ghost use Rattle.station.specs.Parts.{pacerAfter, handInChecksOn, sendChecksOn, calledCore, eagainCore, nacksCore, tosCore, tickedCore, ratedCore, sampledTracker, registerChecksOn, registeredParts, sharedOut};
+ghost use Rattle.station.specs.Parts.{pacerAfter, handInChecksOn, sendChecksOn, calledCore, eagainCore, nacksCore, tosCore, tickedCore, ratedCore, sampledRow, sampledTracker, registerChecksOn, registeredParts, sharedOut};
 use crate::roster::Roster;
 use crate::station::StationConfig;
 use config::config::Priority;
@@ -21,8 +21,10 @@ use pacing::writer_pacer::Handed;
 use pacing::writer_pacer::PacerConfig;
 use pacing::writer_pacer::PacerCore;
 use pacing::writer_pacer::SendTried;
+use signals::rtt_estimator::PeerRow;
 use signals::rtt_estimator::PeerRttTracker;
 use signals::rtt_estimator::check_sample;
+use signals::rtt_estimator::seat_of;
 
 // The words of four pacers: entries and counts.
 pub const STATION_WORDS: usize = 7220;
@@ -41,6 +43,13 @@ pub struct TrackerLeft {
     pub answer: u8,
     pub ledger: Ledger,
     pub tracker: PeerRttTracker,
+}
+
+// What a sample leaves of the row that it goes to.
+pub struct RowLeft {
+    pub answer: u8,
+    pub ledger: Ledger,
+    pub row: PeerRow,
 }
 
 // What a register leaves.
@@ -283,44 +292,79 @@ pub fn share_out(
     }
 }
 
-// With control off no peer is entered, and 14 is not looked at.
+// A sample in the row of the place that it goes to. With control off no peer is entered, and 14 is not looked at.
+pub fn sample_row(
+    ledger: Ledger,
+    config: ControllerConfig,
+    row: PeerRow,
+    at: usize,
+    time: u64,
+    peer_id: u32,
+    rtt_ms: f32,
+) -> RowLeft
+    ensures { λ r. ⌜ r ≡ sampledRow ledger config row at time «peer_id» «rtt_ms» ⌝ }
+{
+    let answer = check_sample(ledger, time, rtt_ms);
+    if answer != 0 {
+        return RowLeft {
+            answer,
+            ledger,
+            row,
+        };
+    }
+    if config.enabled {
+        let entered = row.enter(at, time, peer_id, rtt_ms);
+        let after = entered.row;
+        if entered.full {
+            return RowLeft {
+                answer: refusal::TABLE_FULL,
+                ledger,
+                row: after,
+            };
+        }
+        return RowLeft {
+            answer: 0,
+            ledger: ledger.moved(time),
+            row: after,
+        };
+    }
+    RowLeft {
+        answer: 0,
+        ledger: ledger.moved(time),
+        row,
+    }
+}
+
+// The same on a tracker by value.
 pub fn on_rtt_sample(
     ledger: Ledger,
     config: ControllerConfig,
-    tracker: PeerRttTracker,
+    mut tracker: PeerRttTracker,
     time: u64,
     peer_id: u32,
     rtt_ms: f32,
 ) -> TrackerLeft
     ensures { λ r. ⌜ r ≡ sampledTracker ledger config tracker time «peer_id» «rtt_ms» ⌝ }
 {
-    let answer = check_sample(ledger, time, rtt_ms);
-    if answer != 0 {
-        return TrackerLeft {
-            answer,
-            ledger,
-            tracker,
-        };
-    }
-    if config.enabled {
-        let entered = tracker.enter(time, peer_id, rtt_ms);
-        let after = entered.tracker;
-        if entered.full {
-            return TrackerLeft {
-                answer: refusal::TABLE_FULL,
-                ledger,
-                tracker: after,
-            };
-        }
-        return TrackerLeft {
-            answer: 0,
-            ledger: ledger.moved(time),
-            tracker: after,
-        };
-    }
+    let at = seat_of(&tracker.ids, tracker.count, peer_id);
+    let id = tracker.ids[at];
+    let estimator = tracker.peers[at];
+    let row = PeerRow {
+        id,
+        estimator,
+        count: tracker.count,
+        default_ms: tracker.default_ms,
+    };
+    let left = sample_row(ledger, config, row, at, time, peer_id, rtt_ms);
+    let after = left.row;
+    let peer = after.estimator;
+    let moved = left.ledger;
+    tracker.ids[at] = after.id;
+    tracker.peers[at] = peer;
+    tracker.count = after.count;
     TrackerLeft {
-        answer: 0,
-        ledger: ledger.moved(time),
+        answer: left.answer,
+        ledger: moved,
         tracker,
     }
 }

@@ -22,23 +22,27 @@ use Rattle.pacing.specs.declared.writer_pacer.Handed.{Handed}
 use Rattle.pacing.specs.declared.writer_pacer.PacerConfig.{PacerConfig}
 use Rattle.pacing.specs.declared.writer_pacer.PacerCore.{PacerCore}
 use Rattle.pacing.specs.declared.writer_pacer.SendTried.{SendTried}
-use Rattle.signals.specs.RttEstimator.{anyInflated, newTracker}
+use Rattle.signals.proofs.Peers.{row-kept}
+use Rattle.signals.specs.RttEstimator.{anyInflated, newTracker, seatOf, rowAt, withRow}
+use Rattle.signals.specs.declared.rtt_estimator.PeerRow.{PeerRow}
 use Rattle.signals.specs.declared.rtt_estimator.PeerRttTracker.{PeerRttTracker}
 use Rattle.control.specs.BudgetAllocator.{writersOf, newAllocator}
 use Rattle.control.specs.Controller.{coreTicked, coreSet, newCore, newController}
 use Rattle.control.specs.declared.controller.ControllerConfig.{ControllerConfig}
 use Rattle.control.specs.declared.controller.ControllerCore.{ControllerCore}
 use Rattle.control.specs.declared.budget_allocator.BudgetAllocator.{BudgetAllocator}
-use Rattle.station.specs.Parts.{handInChecksOn, sendChecksOn, coreLeft, calledCore, ratedCore, coreLeftBy, eagainCore, nacksCore, tosCore, tickedCore, sharedBy, registeredParts, sampledTracker}
+use Rattle.station.specs.Parts.{handInChecksOn, sendChecksOn, coreLeft, calledCore, ratedCore, coreLeftBy, eagainCore, nacksCore, tosCore, tickedCore, sharedBy, registeredParts, sampledTracker, sampledRow}
 use Rattle.station.specs.Station.{stationConfigOf, newRoster, writerAt, withPacer, rttStation, ratedStation}
 use Rattle.station.specs.declared.parts.CoreLeft.{CoreLeft}
 use Rattle.station.specs.declared.roster.Roster.{Roster}
 use Rattle.station.specs.declared.parts.RosterLeft.{RosterLeft}
+use Rattle.station.specs.declared.parts.RowLeft.{RowLeft}
 use Rattle.station.specs.declared.parts.TrackerLeft.{TrackerLeft}
 use Rattle.station.specs.declared.station.StationAnswer.{StationAnswer}
 use Rattle.station.specs.declared.station.StationConfig.{StationConfig}
+use Rattle.station.proofs.Rows.{leftIn, sampled-row}
 use Rattle.station.proofs.Shells.{handed-parts, pool-parts, sent-parts, eagain-parts, nacks-parts, tos-parts, untold-shell, tick-shell, rated-parts, register-parts, rtt-parts, rosterIn, trackerIn, rateIn}
-use Rattle.tape.specs.Desk.{Desk, placeOf, deskOf, stationAt, playerAt, endAt, Stands, isAdvance, isPaced, isSignal, isSample, isTick, Onward, sharedFor, sharedEnd, haltedEnd, restOf, Ending, endingOf, endedWith, newStationWith}
+use Rattle.tape.specs.Desk.{Desk, placeOf, deskOf, stationAt, playerAt, endAt, Stands, isAdvance, isPaced, isSignal, isSample, isRated, rateFor, peerOf, Onward, sharedFor, sharedEnd, haltedAt, haltedEnd, restOf, Ending, endingOf, endedWith, newStationWith}
 use Rattle.tape.specs.Item.{wordsOf, wordsFrom, itemAt, takes, stops, wordAfter, keyAt, bodyAt}
 use Rattle.tape.specs.Run.{Player, playerOf, Told, fields, updates, toldText, Line, lineOf, fieldsWhere, actionFields, rateTold, Step, silent, saying, called, plain, rated, sentBy, played, linesOf, textOf, advanced, tapeSettings, newPlayer, tapeText, roomFor, runOf, ranTape, linesLeft}
 use Rattle.tape.specs.Text.{written, ended, header, fieldsText, lineText}
@@ -310,6 +314,26 @@ sample-ends bytes ls c d t a words pool peer bits next rtt x h er e =
     ∙ ap (plain (playerAt c d t a words pool) (d .place .word))
     (sym (ap (trackerIn (stationAt c d t a words)) e ∙ rtt-parts (stationAt c d t a words) (d .place .clock) peer rtt))) (h .1)
 
+-- a sample on the row of its place
+pub row-ends :
+    (bytes ls : List ℕ) (c : StationConfig) (d : Desk) (t : PeerRttTracker) (a : BudgetAllocator) (words pool : List ℕ) (peer bits next : ℕ) (rtt : Float) (seat : ℕ) (r : PeerRow) (x : RowLeft)
+    → Stands bytes (d .place .word) next (Rtt peer bits) → rtt ≡ ofBits binary32 bits
+    → seat ≡ seatOf (t .ids) (t .count) (peerOf (itemAt bytes (d .place .word))) → r ≡ rowAt t seat
+    → x ≡ sampledRow (d .place .ledger) (c .controller) r seat (d .place .clock) peer rtt
+    → endAt bytes c (written ls (d .place .at) (plainLine d (x .answer))) (deskOf (placeOf next (ended (length ls) (d .place .at) (length (plainLine d (x .answer)))) (d .place .clock) (x .ledger)) (d .core) (d .roster)) (withRow t seat (x .row)) a words pool
+    ≡ endAt bytes c ls d t a words pool
+row-ends bytes ls c d t a words pool peer bits next rtt seat r x h er es ew e =
+    sample-ends bytes ls c d t a words pool peer bits next rtt (leftIn t seat x) h er
+    (ap (leftIn t seat) (e ∙ ap (λ (r : PeerRow). sampledRow (d .place .ledger) (c .controller) r seat (d .place .clock) peer rtt) ew)
+    ∙ sampled-row (d .place .ledger) (c .controller) t seat (d .place .clock) peer rtt (es ∙ ap (λ (i : Item). seatOf (t .ids) (t .count) (peerOf i)) (h .0)))
+
+-- .. and a row that is put back
+pub row-still :
+    (bytes ls : List ℕ) (c : StationConfig) (d : Desk) (t : PeerRttTracker) (a : BudgetAllocator) (words pool : List ℕ) (seat : ℕ) (r : PeerRow)
+    → r ≡ rowAt t seat → endAt bytes c ls d (withRow t seat r) a words pool ≡ endAt bytes c ls d t a words pool
+row-still bytes ls c d t a words pool seat r e =
+    ap (λ (t : PeerRttTracker). endAt bytes c ls d t a words pool) (ap (withRow t seat) e ∙ row-kept t seat)
+
 -- the same with another answer and telling
 abbrev leftWith : CoreLeft → ℕ → Bool → CoreLeft
 leftWith x answer told = record { answer = answer; told = told; ledger = x .ledger; core = x .core }
@@ -363,7 +387,8 @@ pub tick-told-ends :
     → haltedEnd bytes c ls (toldDesk d left) t a words pool ≡ endAt bytes c ls d t a words pool
 unfolding stops played haltedEnd
 tick-told-ends bytes ls c d t a words pool next inflated left h ei e et =
-    rw (ap isTick (h .0), sym (h .1))
+    ap (λ (i : Item). haltedAt i bytes c ls (toldDesk d left) t a words pool) (h .0)
+    ∙ rw (sym (h .1))
     (told-ends bytes ls c d t a words pool Tick next (rateIn left) _ left h refl refl
     (tick-shell (stationAt c d t a words) (d .place .clock) (rateIn left) left (d .core) t inflated refl refl ei e refl)
     (subst (λ (x : CoreLeft). x .told ≡ true → x .answer ≡ 0) (sym e) (tick-accepted (d .place .ledger) (c .controller) (d .core) inflated (d .place .clock)) et) et)
@@ -374,15 +399,17 @@ set-rate-played :
 set-rate-played c d t a words rate left e =
     ap (λ (x : CoreLeft). sharedBy (stationAt c d t a words) x (d .place .clock) rate) e ∙ rated-parts (stationAt c d t a words) (d .place .clock) rate
 
--- a rate setting that is shared out
+-- a rate setting that is to be shared out
 pub set-rate-told-ends :
     (bytes ls : List ℕ) (c : StationConfig) (d : Desk) (t : PeerRttTracker) (a : BudgetAllocator) (words pool : List ℕ) (next rate : ℕ) (left : CoreLeft)
     → Stands bytes (d .place .word) next (SetRate rate) → left ≡ ratedCore (d .place .ledger) (c .controller) (d .core) (d .place .clock) rate → left .told ≡ true
-    → sharedEnd bytes c ls (toldDesk d left) next rate t a words pool ≡ endAt bytes c ls d t a words pool
-unfolding stops played
+    → haltedEnd bytes c ls (toldDesk d left) t a words pool ≡ endAt bytes c ls d t a words pool
+unfolding stops played haltedEnd
 set-rate-told-ends bytes ls c d t a words pool next rate left h e et =
-    told-ends bytes ls c d t a words pool (SetRate rate) next rate _ left h refl refl (set-rate-played c d t a words rate left e)
-    (subst (λ (x : CoreLeft). x .told ≡ true → x .answer ≡ 0) (sym e) (rate-accepted (d .place .ledger) (c .controller) (d .core) (d .place .clock) rate) et) et
+    ap (λ (i : Item). haltedAt i bytes c ls (toldDesk d left) t a words pool) (h .0)
+    ∙ rw (sym (h .1))
+    (told-ends bytes ls c d t a words pool (SetRate rate) next rate _ left h refl refl (set-rate-played c d t a words rate left e)
+    (subst (λ (x : CoreLeft). x .told ≡ true → x .answer ≡ 0) (sym e) (rate-accepted (d .place .ledger) (c .controller) (d .core) (d .place .clock) rate) et) et)
 
 -- .. or turned down
 pub set-rate-ends :
@@ -449,7 +476,7 @@ unpaced-item (Send i) h e = absurd (miss unpacedTags 10 tt h)
 unpaced-item (SetRate rate) h e = refl
 
 abbrev pub unsignalledTags : List ℕ
-unsignalledTags = 0 ∷ 1 ∷ 2 ∷ 3 ∷ 7 ∷ 9 ∷ 10 ∷ 11 ∷ []
+unsignalledTags = 0 ∷ 1 ∷ 2 ∷ 3 ∷ 7 ∷ 9 ∷ 10 ∷ []
 
 pub unsignalled-item : (i : Item) → OneOf unsignalledTags (tagOf the-type i) → isAdvance i ≡ false → isSignal i ≡ false
 unsignalled-item End h e = refl
@@ -463,21 +490,21 @@ unsignalled-item (Rtt peer bits) h e = refl
 unsignalled-item Tick h e = absurd (miss unsignalledTags 8 tt h)
 unsignalled-item (HandIn i c n) h e = refl
 unsignalled-item (Send i) h e = refl
-unsignalled-item (SetRate rate) h e = refl
+unsignalled-item (SetRate rate) h e = absurd (miss unsignalledTags 11 tt h)
 
-pub untimed-item : (i : Item) → OneOf unsignalledTags (tagOf the-type i) → isTick i ≡ false
-untimed-item End h = refl
-untimed-item Broken h = refl
-untimed-item (Advance v) h = refl
-untimed-item (Register c id) h = refl
-untimed-item Eagain h = absurd (miss unsignalledTags 4 tt h)
-untimed-item (Tos tos) h = absurd (miss unsignalledTags 5 tt h)
-untimed-item (Nacks count) h = absurd (miss unsignalledTags 6 tt h)
-untimed-item (Rtt peer bits) h = refl
-untimed-item Tick h = absurd (miss unsignalledTags 8 tt h)
-untimed-item (HandIn i c n) h = refl
-untimed-item (Send i) h = refl
-untimed-item (SetRate rate) h = refl
+pub unrated-item : (i : Item) → OneOf unsignalledTags (tagOf the-type i) → isRated i ≡ false
+unrated-item End h = refl
+unrated-item Broken h = refl
+unrated-item (Advance v) h = refl
+unrated-item (Register c id) h = refl
+unrated-item Eagain h = absurd (miss unsignalledTags 4 tt h)
+unrated-item (Tos tos) h = absurd (miss unsignalledTags 5 tt h)
+unrated-item (Nacks count) h = absurd (miss unsignalledTags 6 tt h)
+unrated-item (Rtt peer bits) h = refl
+unrated-item Tick h = absurd (miss unsignalledTags 8 tt h)
+unrated-item (HandIn i c n) h = refl
+unrated-item (Send i) h = refl
+unrated-item (SetRate rate) h = absurd (miss unsignalledTags 11 tt h)
 
 abbrev pub unsampledTags : List ℕ
 unsampledTags = 0 ∷ 1 ∷ 2 ∷ 3 ∷ 4 ∷ 5 ∷ 6 ∷ 8 ∷ 9 ∷ 10 ∷ 11 ∷ []
@@ -533,38 +560,88 @@ end-item (HandIn i c n) h e = absurd (not-both e)
 end-item (Send i) h e = absurd (not-both e)
 end-item (SetRate rate) h e = absurd (not-both e)
 
--- what neither touches a table nor stops the tape nor is a signal is the pacers'
+-- what neither enters a table nor stops the tape nor is a signal nor has a rate to share out is the pacers'
 abbrev pub untabledTags : List ℕ
-untabledTags = 0 ∷ 1 ∷ 2 ∷ 4 ∷ 5 ∷ 6 ∷ 9 ∷ 10 ∷ []
+untabledTags = 0 ∷ 1 ∷ 2 ∷ 4 ∷ 5 ∷ 6 ∷ 8 ∷ 9 ∷ 10 ∷ 11 ∷ []
 
-pub paced-item : (i : Item) → OneOf untabledTags (tagOf the-type i) → stops i ≡ false → isSignal i ≡ false → isPaced i ≡ true
+pub paced-item : (i : Item) → OneOf untabledTags (tagOf the-type i) → stops i ≡ false → isSignal i ≡ false → isRated i ≡ false → isPaced i ≡ true
 unfolding stops
-paced-item End h e f = absurd (not-both (sym e))
-paced-item Broken h e f = absurd (not-both (sym e))
-paced-item (Advance v) h e f = absurd (not-both (sym f))
-paced-item (Register c id) h e f = absurd (miss untabledTags 3 tt h)
-paced-item Eagain h e f = absurd (not-both (sym f))
-paced-item (Tos tos) h e f = absurd (not-both (sym f))
-paced-item (Nacks count) h e f = absurd (not-both (sym f))
-paced-item (Rtt peer bits) h e f = absurd (miss untabledTags 7 tt h)
-paced-item Tick h e f = absurd (miss untabledTags 8 tt h)
-paced-item (HandIn i c n) h e f = refl
-paced-item (Send i) h e f = refl
-paced-item (SetRate rate) h e f = absurd (miss untabledTags 11 tt h)
+paced-item End h e f g = absurd (not-both (sym e))
+paced-item Broken h e f g = absurd (not-both (sym e))
+paced-item (Advance v) h e f g = absurd (not-both (sym f))
+paced-item (Register c id) h e f g = absurd (miss untabledTags 3 tt h)
+paced-item Eagain h e f g = absurd (not-both (sym f))
+paced-item (Tos tos) h e f g = absurd (not-both (sym f))
+paced-item (Nacks count) h e f g = absurd (not-both (sym f))
+paced-item (Rtt peer bits) h e f g = absurd (miss untabledTags 7 tt h)
+paced-item Tick h e f g = absurd (not-both (sym g))
+paced-item (HandIn i c n) h e f g = refl
+paced-item (Send i) h e f g = refl
+paced-item (SetRate rate) h e f g = absurd (not-both (sym g))
 
-pub untabled-item : (i : Item) → OneOf untabledTags (tagOf the-type i) → isTick i ≡ false
-untabled-item End h = refl
-untabled-item Broken h = refl
-untabled-item (Advance v) h = refl
-untabled-item (Register c id) h = absurd (miss untabledTags 3 tt h)
-untabled-item Eagain h = refl
-untabled-item (Tos tos) h = refl
-untabled-item (Nacks count) h = refl
-untabled-item (Rtt peer bits) h = absurd (miss untabledTags 7 tt h)
-untabled-item Tick h = absurd (miss untabledTags 8 tt h)
-untabled-item (HandIn i c n) h = refl
-untabled-item (Send i) h = refl
-untabled-item (SetRate rate) h = absurd (miss untabledTags 11 tt h)
+-- no rate is shared out where the tape stops
+pub last-item : (i : Item) → stops i ≡ true → isRated i ≡ false
+unfolding stops
+last-item End e = refl
+last-item Broken e = refl
+last-item (Advance v) e = absurd (not-both e)
+last-item (Register c id) e = absurd (not-both e)
+last-item Eagain e = absurd (not-both e)
+last-item (Tos tos) e = absurd (not-both e)
+last-item (Nacks count) e = absurd (not-both e)
+last-item (Rtt peer bits) e = absurd (not-both e)
+last-item Tick e = absurd (not-both e)
+last-item (HandIn i c n) e = absurd (not-both e)
+last-item (Send i) e = absurd (not-both e)
+last-item (SetRate rate) e = absurd (not-both e)
+
+abbrev pub ungivenTags : List ℕ
+ungivenTags = 0 ∷ 1 ∷ 2 ∷ 3 ∷ 4 ∷ 5 ∷ 6 ∷ 7 ∷ 8 ∷ 9 ∷ 10 ∷ []
+
+pub ungiven-item : (i : Item) → OneOf ungivenTags (tagOf the-type i) → (rate : ℕ) → rate ≡ rateFor i rate
+ungiven-item End h rate = refl
+ungiven-item Broken h rate = refl
+ungiven-item (Advance v) h rate = refl
+ungiven-item (Register c id) h rate = refl
+ungiven-item Eagain h rate = refl
+ungiven-item (Tos tos) h rate = refl
+ungiven-item (Nacks count) h rate = refl
+ungiven-item (Rtt peer bits) h rate = refl
+ungiven-item Tick h rate = refl
+ungiven-item (HandIn i c n) h rate = refl
+ungiven-item (Send i) h rate = refl
+ungiven-item (SetRate given) h rate = absurd (miss ungivenTags 11 tt h)
+
+abbrev pub unsharedTags : List ℕ
+unsharedTags = 0 ∷ 1 ∷ 2 ∷ 3 ∷ 4 ∷ 5 ∷ 6 ∷ 7 ∷ 9 ∷ 10 ∷ []
+
+pub unshared-item : (i : Item) → OneOf unsharedTags (tagOf the-type i) → false ≡ isRated i
+unshared-item End h = refl
+unshared-item Broken h = refl
+unshared-item (Advance v) h = refl
+unshared-item (Register c id) h = refl
+unshared-item Eagain h = refl
+unshared-item (Tos tos) h = refl
+unshared-item (Nacks count) h = refl
+unshared-item (Rtt peer bits) h = refl
+unshared-item Tick h = absurd (miss unsharedTags 8 tt h)
+unshared-item (HandIn i c n) h = refl
+unshared-item (Send i) h = refl
+unshared-item (SetRate rate) h = absurd (miss unsharedTags 11 tt h)
+
+pub peerless-item : (i : Item) → OneOf unsampledTags (tagOf the-type i) → 0 ≡ peerOf i
+peerless-item End h = refl
+peerless-item Broken h = refl
+peerless-item (Advance v) h = refl
+peerless-item (Register c id) h = refl
+peerless-item Eagain h = refl
+peerless-item (Tos tos) h = refl
+peerless-item (Nacks count) h = refl
+peerless-item (Rtt peer bits) h = absurd (miss unsampledTags 7 tt h)
+peerless-item Tick h = refl
+peerless-item (HandIn i c n) h = refl
+peerless-item (Send i) h = refl
+peerless-item (SetRate rate) h = refl
 
 -- what was found at a word
 pub stands-at :
@@ -606,29 +683,43 @@ halted-on bytes goes from to o h =
 pub still-on : (bytes : List ℕ) (word : ℕ) → isAdvance (itemAt bytes word) ≡ false → Onward bytes isAdvance word word false
 still-on bytes word h = record { ahead = omega arith; inside = λ e. e; further = λ e. absurd (not-both e); halted = λ e. h }
 
--- a tick, which halts where it changed the rate
-pub tick-on :
-    (bytes : List ℕ) (from word to : ℕ) (moved : Bool) (next : ℕ) → Onward bytes isAdvance from word false → Stands bytes word next Tick
+-- a tick or a rate setting, which halts where a rate is to be shared out
+pub rated-on :
+    (bytes : List ℕ) (from word to : ℕ) (moved : Bool) (item : Item) (next : ℕ) → Onward bytes isAdvance from word false → Stands bytes word next item → stops item ≡ false → isSignal item ≡ false
     → (moved ≡ true → to ≡ next) → (moved ≡ false → to ≡ word) → Onward bytes isSignal from to moved
-unfolding stops
-tick-on bytes from word to true next o h on still = moved-on bytes isSignal from word to true Tick next (o .ahead) h refl (on refl) refl
-tick-on bytes from word to false next o h on still =
-    subst (λ (n : ℕ). Onward bytes isSignal from n false) (sym (still refl)) (halted-on bytes isSignal from word o (ap isSignal (h .0)))
+rated-on bytes from word to true item next o h es en on still = moved-on bytes isSignal from word to true item next (o .ahead) h es (on refl) refl
+rated-on bytes from word to false item next o h es en on still =
+    subst (λ (n : ℕ). Onward bytes isSignal from n false) (sym (still refl)) (halted-on bytes isSignal from word o (ap isSignal (h .0) ∙ en))
 
--- where the loop over signals halts at anything but a tick, nothing is left to share out
+-- an item after the advances before it
+pub after-on :
+    (bytes : List ℕ) (goes : Item → Bool) (from mid to : ℕ) (moved : Bool) → Onward bytes isAdvance from mid false → (isAdvance (itemAt bytes mid) ≡ false → Onward bytes goes mid to moved)
+    → Onward bytes goes from to moved
+after-on bytes goes from mid to moved o on =
+    let next = on (o .halted refl) in
+    record {
+      ahead = omega (arith, o .ahead, next .ahead);
+      inside = λ e. next .inside (o .inside e);
+      further = λ e. (omega (arith, o .ahead, next .further e .0), next .further e .1);
+      halted = next .halted;
+    }
+
+-- where the loop over signals halts at an item without a rate, nothing is left to share out
 pub halted-still :
     (bytes ls : List ℕ) (c : StationConfig) (d : Desk) (t : PeerRttTracker) (a : BudgetAllocator) (words pool : List ℕ)
-    → isTick (itemAt bytes (d .place .word)) ≡ false → haltedEnd bytes c ls d t a words pool ≡ endAt bytes c ls d t a words pool
+    → isRated (itemAt bytes (d .place .word)) ≡ false → haltedEnd bytes c ls d t a words pool ≡ endAt bytes c ls d t a words pool
 unfolding haltedEnd
 halted-still bytes ls c d t a words pool e = rw e refl
 
--- .. and at a tick its rate is
-pub halted-tick :
-    (bytes ls : List ℕ) (c : StationConfig) (d : Desk) (t : PeerRttTracker) (a : BudgetAllocator) (words pool : List ℕ) (next rate : ℕ)
-    → Stands bytes (d .place .word) next Tick → rate ≡ d .core .«rate_controller» .«current_rate»
+-- .. and at a tick or a rate setting its rate is
+pub halted-rated :
+    (bytes ls : List ℕ) (c : StationConfig) (d : Desk) (t : PeerRttTracker) (a : BudgetAllocator) (words pool : List ℕ) (item : Item) (next rate : ℕ)
+    → Stands bytes (d .place .word) next item → isRated item ≡ true → rate ≡ rateFor item (d .core .«rate_controller» .«current_rate»)
     → sharedEnd bytes c ls d next rate t a words pool ≡ haltedEnd bytes c ls d t a words pool
 unfolding haltedEnd
-halted-tick bytes ls c d t a words pool next rate h er = rw (er, ap isTick (h .0), h .1) refl
+halted-rated bytes ls c d t a words pool item next rate h ei er =
+    let here : sharedEnd bytes c ls d next rate t a words pool ≡ haltedAt item bytes c ls d t a words pool = rw (er, h .1, ei) refl in
+    here ∙ ap (λ (i : Item). haltedAt i bytes c ls d t a words pool) (sym (h .0))
 
 -- from a word to a later one, never past the tape
 abbrev pub Reached : List ℕ → ℕ → ℕ → Type 0

@@ -6,7 +6,8 @@ use mathlib.Core.Path.{_≡_}
 use lib.ListN.{length}
 use Rattle.config.specs.Ledger.{opened}
 use Rattle.config.specs.declared.ledger.Ledger.{Ledger}
-use Rattle.signals.specs.RttEstimator.{anyInflated}
+use Rattle.signals.specs.RttEstimator.{anyInflated, seatOf, rowAt, withRow}
+use Rattle.signals.specs.declared.rtt_estimator.PeerRow.{PeerRow}
 use Rattle.signals.specs.declared.rtt_estimator.PeerRttTracker.{PeerRttTracker}
 use Rattle.control.specs.BudgetAllocator.{writersOf}
 use Rattle.control.specs.Controller.{controllerOf, newController}
@@ -99,7 +100,7 @@ isPaced (Rtt peer bits) = false
 isPaced Tick = false
 isPaced (SetRate rate) = false
 
--- signals but samples; a tick ends the loop where it changes the rate
+-- signals but samples; a tick and a rate setting end the loop where a rate is to be shared out
 abbrev pub isSignal : Item → Bool
 isSignal Eagain = true
 isSignal (Tos tos) = true
@@ -128,19 +129,50 @@ isSample (HandIn i c n) = false
 isSample (Send i) = false
 isSample (SetRate rate) = false
 
-abbrev pub isTick : Item → Bool
-isTick Tick = true
-isTick End = false
-isTick Broken = false
-isTick (Advance micros) = false
-isTick (Register c id) = false
-isTick Eagain = false
-isTick (Tos tos) = false
-isTick (Nacks count) = false
-isTick (Rtt peer bits) = false
-isTick (HandIn i c n) = false
-isTick (Send i) = false
-isTick (SetRate rate) = false
+-- what leaves a rate to be shared out, where the loop over signals halts at it
+abbrev pub isRated : Item → Bool
+isRated Tick = true
+isRated (SetRate rate) = true
+isRated End = false
+isRated Broken = false
+isRated (Advance micros) = false
+isRated (Register c id) = false
+isRated Eagain = false
+isRated (Tos tos) = false
+isRated (Nacks count) = false
+isRated (Rtt peer bits) = false
+isRated (HandIn i c n) = false
+isRated (Send i) = false
+
+-- .. and which: of a rate setting the one given, else the core's
+abbrev pub rateFor : Item → ℕ → ℕ
+rateFor (SetRate given) rate = given
+rateFor End rate = rate
+rateFor Broken rate = rate
+rateFor (Advance micros) rate = rate
+rateFor (Register c id) rate = rate
+rateFor Eagain rate = rate
+rateFor (Tos tos) rate = rate
+rateFor (Nacks count) rate = rate
+rateFor (Rtt peer bits) rate = rate
+rateFor Tick rate = rate
+rateFor (HandIn i c n) rate = rate
+rateFor (Send i) rate = rate
+
+-- the peer of a sample
+abbrev pub peerOf : Item → ℕ
+peerOf (Rtt peer bits) = peer
+peerOf End = 0
+peerOf Broken = 0
+peerOf (Advance micros) = 0
+peerOf (Register c id) = 0
+peerOf Eagain = 0
+peerOf (Tos tos) = 0
+peerOf (Nacks count) = 0
+peerOf Tick = 0
+peerOf (HandIn i c n) = 0
+peerOf (Send i) = 0
+peerOf (SetRate rate) = 0
 
 -- from word to word of a tape, never back: what moved is further on, what did not has come to an item that is none of the loop's
 pub record Onward (bytes : List ℕ) (goes : Item → Bool) (from to : ℕ) (moved : Bool) : Type 0 where
@@ -175,17 +207,17 @@ SampledOn bytes c ls p t ls′ p′ t′ =
     (k : ControllerCore) (g : Roster) (a : BudgetAllocator) (words pool : List ℕ)
     → endAt bytes c ls′ (deskOf p′ k g) t′ a words pool ≡ endAt bytes c ls (deskOf p k g) t a words pool
 
+-- .. of whatever table the row is, at the place that the sample goes to
+abbrev pub RowSampledOn : List ℕ → StationConfig → List ℕ → Place → PeerRow → ℕ → List ℕ → Place → PeerRow → Type 0
+RowSampledOn bytes c ls p r seat ls′ p′ r′ =
+    (t : PeerRttTracker) → seat ≡ seatOf (t .ids) (t .count) (peerOf (itemAt bytes (p .word))) → r ≡ rowAt t seat
+    → SampledOn bytes c ls p t ls′ p′ (withRow t seat r′)
+
 -- .. whatever controller and peers hold
 abbrev pub RegisteredOn : List ℕ → StationConfig → List ℕ → Place → Roster → BudgetAllocator → List ℕ → Place → Roster → BudgetAllocator → Type 0
 RegisteredOn bytes c ls p g a ls′ p′ g′ a′ =
     (k : ControllerCore) (t : PeerRttTracker) (words pool : List ℕ)
     → endAt bytes c ls′ (deskOf p′ k g′) t a′ words pool ≡ endAt bytes c ls (deskOf p k g) t a words pool
-
--- .. whatever the peers hold
-abbrev pub RatedOn : List ℕ → StationConfig → List ℕ → Place → ControllerCore → Roster → BudgetAllocator → List ℕ → Place → ControllerCore → Roster → BudgetAllocator → Type 0
-RatedOn bytes c ls p k g a ls′ p′ k′ g′ a′ =
-    (t : PeerRttTracker) (words pool : List ℕ)
-    → endAt bytes c ls′ (deskOf p′ k′ g′) t a′ words pool ≡ endAt bytes c ls (deskOf p k g) t a words pool
 
 -- ---- a rate shared out
 
@@ -208,12 +240,15 @@ abbrev pub sharedEnd : List ℕ → StationConfig → List ℕ → Desk → ℕ 
 sharedEnd bytes c ls d next rate t a words pool =
     endAt bytes c (sharedLines c d a rate ls) (deskOf (sharedPlace c d next a rate ls) (d .core) (sharedFor c d a rate .roster)) t (sharedFor c d a rate .allocator) words pool
 
--- .. from where the loop over signals halts: at a tick that changed the rate, or at an item that is none of its own
-unfoldable pub haltedEnd : List ℕ → StationConfig → List ℕ → Desk → PeerRttTracker → BudgetAllocator → List ℕ → List ℕ → Ending
-haltedEnd bytes c ls d t a words pool =
-    cond (isTick (itemAt bytes (d .place .word)))
-    (sharedEnd bytes c ls d (wordAfter bytes (d .place .word) Tick) (d .core .«rate_controller» .«current_rate») t a words pool)
+-- .. from where the loop over signals halts: at an item whose rate is to be shared out, or at one that is none of its own
+abbrev pub haltedAt : Item → List ℕ → StationConfig → List ℕ → Desk → PeerRttTracker → BudgetAllocator → List ℕ → List ℕ → Ending
+haltedAt item bytes c ls d t a words pool =
+    cond (isRated item)
+    (sharedEnd bytes c ls d (wordAfter bytes (d .place .word) item) (rateFor item (d .core .«rate_controller» .«current_rate»)) t a words pool)
     (endAt bytes c ls d t a words pool)
+
+unfoldable pub haltedEnd : List ℕ → StationConfig → List ℕ → Desk → PeerRttTracker → BudgetAllocator → List ℕ → List ℕ → Ending
+haltedEnd bytes c ls d t a words pool = haltedAt (itemAt bytes (d .place .word)) bytes c ls d t a words pool
 
 abbrev pub HaltedOn : Bool → List ℕ → StationConfig → List ℕ → Place → ControllerCore → List ℕ → Place → ControllerCore → Type 0
 HaltedOn inflated bytes c ls p k ls′ p′ k′ =

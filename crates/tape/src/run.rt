@@ -8,7 +8,7 @@ ghost use lib.ListN.{length};
 ghost use Rattle.tape.specs.Item.{itemAt, stops};
 ghost use Rattle.tape.specs.declared.item.Item.the-variants.{HandIn, Send, Eagain, Nacks, Tos, Tick, Register, Rtt, SetRate};
 ghost use Rattle.tape.specs.Run.{Player, playerOf, tapeSettings, advanced, fieldsWhere, actionFields, roomFor, ranTape, linesLeft};
-ghost use Rattle.tape.specs.Desk.{placeOf, deskOf, Stands, Onward, isAdvance, isPaced, isSignal, isSample, Waited, PacedOn, SignalledOn, HaltedOn, SampledOn, RegisteredOn, RatedOn, sharedFor, sharedLines, sharedPlace, endingOf, endedWith, newStationWith};
+ghost use Rattle.tape.specs.Desk.{placeOf, deskOf, Stands, Onward, isAdvance, isPaced, isSignal, isSample, isRated, rateFor, peerOf, Waited, PacedOn, SignalledOn, HaltedOn, RowSampledOn, SampledOn, RegisteredOn, sharedFor, sharedLines, sharedPlace, endingOf, endedWith, newStationWith};
 ghost use Rattle.tape.specs.Text.{written, ended, fieldsText, lineText};
 use crate::item;
 use crate::item::Item;
@@ -24,7 +24,9 @@ use control::controller::ControllerCore;
 use numeric::float::f32_of_bits;
 use numeric::integer::bounded_add;
 use pacing::writer_pacer::SendAction;
+use signals::rtt_estimator::PeerRow;
 use signals::rtt_estimator::PeerRttTracker;
+use signals::rtt_estimator::seat_of;
 use station::parts;
 use station::parts::CoreLeft;
 use station::parts::STATION_WORDS;
@@ -64,7 +66,8 @@ pub(crate) struct Paced {
     pub(crate) moved: bool,
 }
 
-// What a signal or a tick leaves; `moved`: there was one, and its line is written. A tick that changes the rate has ticked but not moved.
+// What a signal, a tick or a rate setting leaves; `moved`: there was one, and its line is written. A tick that changes the rate and a rate
+// setting that is accepted are done on the core but have not moved.
 pub(crate) struct Signalled {
     pub(crate) place: Place,
     pub(crate) core: ControllerCore,
@@ -78,6 +81,13 @@ pub(crate) struct Sampled {
     pub(crate) moved: bool,
 }
 
+// What a sample leaves of the row that it goes to; `moved`: there was one.
+pub(crate) struct RowSampled {
+    pub(crate) place: Place,
+    pub(crate) row: PeerRow,
+    pub(crate) moved: bool,
+}
+
 // What a register leaves.
 pub(crate) struct Registered {
     pub(crate) place: Place,
@@ -85,7 +95,7 @@ pub(crate) struct Registered {
     pub(crate) allocator: BudgetAllocator,
 }
 
-// What a rate that is set or shared out leaves.
+// What a rate that is shared out leaves.
 pub(crate) struct Rated {
     pub(crate) place: Place,
     pub(crate) core: ControllerCore,
@@ -443,7 +453,41 @@ fn tick(
     say(place, next, left, fields, lines)
 }
 
-// A signal or a tick, after the advances before it.
+// A rate setting; where it is accepted, the sharing out and the line are left to the tables.
+fn set_rate(
+    place: Place,
+    core: ControllerCore,
+    next: usize,
+    config: StationConfig,
+    lines: &mut [u8],
+    rate_bps: u32,
+) -> Signalled
+    ensures { λ r. ⌜ (r .moved ≡ true → r .place .word ≡ next) ⌝ }
+    ensures { λ r. ⌜ (r .moved ≡ false → r .place .word ≡ place .word) ⌝ }
+    ensures { λ r. ⌜ ((bytes : List ℕ) (inflated : Bool) → Stands bytes (place .word) next (SetRate «rate_bps») → r .moved ≡ true → SignalledOn inflated bytes config (now (lines .entry)) place core (now (lines .exit)) (r .place) (r .core)) ⌝ }
+    ensures { λ r. ⌜ ((bytes : List ℕ) (inflated : Bool) → Stands bytes (place .word) next (SetRate «rate_bps») → r .moved ≡ false → HaltedOn inflated bytes config (now (lines .entry)) place core (now (lines .exit)) (r .place) (r .core)) ⌝ }
+{
+    let left = parts::set_rate(
+        place.ledger,
+        config.controller(),
+        core,
+        place.clock,
+        rate_bps,
+    );
+    if left.told {
+        let ledger = left.ledger;
+        let rated = left.core;
+        return Signalled {
+            place: Place { ledger, ..place },
+            core: rated,
+            moved: false,
+        };
+    }
+    let fields = fields_where(left.answer, Fields::Unchanged);
+    say(place, next, left, fields, lines)
+}
+
+// A signal, a tick or a rate setting, after the advances before it.
 fn signal(
     tape: &[u8],
     from: Place,
@@ -464,6 +508,7 @@ fn signal(
         Item::Nacks(count) => nacks(place, core, next, config, lines, count),
         Item::Tos(byte) => tos(place, core, next, config, lines, byte),
         Item::Tick => tick(place, core, next, config, inflated, lines),
+        Item::SetRate(rate_bps) => set_rate(place, core, next, config, lines, rate_bps),
         _ => Signalled {
             place,
             core,
@@ -472,7 +517,7 @@ fn signal(
     }
 }
 
-// Signals and ticks one after the other, up to a tick that changes the rate.
+// Signals, ticks and rate settings one after the other, up to a rate that is to be shared out.
 fn signal_on(
     tape: &[u8],
     from: Place,
@@ -497,47 +542,58 @@ fn signal_on(
     }
 }
 
-// A peer's sample, after the advances before it.
+// The peer of the sample that stands at a word, 0 where none does.
+fn peer_at(tape: &[u8], word: usize) -> u32
+    ensures { λ r. ⌜ r ≡ peerOf (itemAt (now (tape .entry)) word) ⌝ }
+{
+    match item::item_at(tape, word) {
+        Item::Rtt { peer, bits: _ } => peer,
+        _ => 0,
+    }
+}
+
+// A peer's sample, in the row of the place that it goes to.
 fn sample(
     tape: &[u8],
-    from: Place,
-    tracker: PeerRttTracker,
+    place: Place,
+    row: PeerRow,
+    seat: usize,
     config: StationConfig,
     lines: &mut [u8],
-) -> Sampled
-    ensures { λ r. ⌜ Onward (now (tape .entry)) isSample (from .word) (r .place .word) (r .moved) ⌝ }
-    ensures { λ r. ⌜ SampledOn (now (tape .entry)) config (now (lines .entry)) from tracker (now (lines .exit)) (r .place) (r .tracker) ⌝ }
+) -> RowSampled
+    ensures { λ r. ⌜ (isAdvance (itemAt (now (tape .entry)) (place .word)) ≡ false → Onward (now (tape .entry)) isSample (place .word) (r .place .word) (r .moved)) ⌝ }
+    ensures { λ r. ⌜ RowSampledOn (now (tape .entry)) config (now (lines .entry)) place row seat (now (lines .exit)) (r .place) (r .row) ⌝ }
 {
-    let place = skip_on(tape, from);
     let found = item::item_at(tape, place.word);
     match found {
         Item::Rtt { peer, bits } => {
-            let left = parts::on_rtt_sample(
+            let left = parts::sample_row(
                 place.ledger,
                 config.controller(),
-                tracker,
+                row,
+                seat,
                 place.clock,
                 peer,
                 f32_of_bits(bits),
             );
             let next = item::word_after(tape, place.word, found);
             let at = text::put_line(lines, place.at, place.word, left.answer, Fields::Nothing);
-            let after = left.tracker;
-            Sampled {
+            let after = left.row;
+            RowSampled {
                 place: behind(place, next, at, left.ledger),
-                tracker: after,
+                row: after,
                 moved: true,
             }
         }
-        _ => Sampled {
+        _ => RowSampled {
             place,
-            tracker,
+            row,
             moved: false,
         },
     }
 }
 
-// Samples one after the other.
+// Samples one after the other, each with the advances before it. The loop keeps the tracker, and hands on one row of it.
 fn sample_on(
     tape: &[u8],
     from: Place,
@@ -551,10 +607,25 @@ fn sample_on(
     let mut place = from;
     let mut tracker = peers;
     loop {
-        let after = sample(tape, place, tracker, config, lines);
+        let here = skip_on(tape, place);
+        let peer = peer_at(tape, here.word);
+        let seat = seat_of(&tracker.ids, tracker.count, peer);
+        let id = tracker.ids[seat];
+        let estimator = tracker.peers[seat];
+        let row = PeerRow {
+            id,
+            estimator,
+            count: tracker.count,
+            default_ms: tracker.default_ms,
+        };
+        let after = sample(tape, here, row, seat, config, lines);
         let moved = after.moved;
+        let left = after.row;
+        let sampled = left.estimator;
         place = after.place;
-        tracker = after.tracker;
+        tracker.ids[seat] = left.id;
+        tracker.peers[seat] = sampled;
+        tracker.count = left.count;
         if !moved {
             return Sampled {
                 place,
@@ -598,7 +669,7 @@ fn register(
     }
 }
 
-// A rate shared out, and the line of the updates.
+// A rate shared out, and the line of the updates. It is called from one place, and so compiled into the loop that keeps the tables.
 fn share(
     place: Place,
     core: ControllerCore,
@@ -627,49 +698,24 @@ fn share(
     }
 }
 
-// A rate setting, shared out where it is accepted.
-fn set_rate(
-    place: Place,
-    core: ControllerCore,
-    roster: Roster,
-    allocator: BudgetAllocator,
-    next: usize,
-    config: StationConfig,
-    lines: &mut [u8],
-    rate_bps: u32,
-) -> Rated
-    ensures { λ r. ⌜ r .place .word ≡ next ⌝ }
-    ensures { λ r. ⌜ ((bytes : List ℕ) → Stands bytes (place .word) next (SetRate «rate_bps») → RatedOn bytes config (now (lines .entry)) place core roster allocator (now (lines .exit)) (r .place) (r .core) (r .roster) (r .allocator)) ⌝ }
+// Whether an item at which the loop over signals halts leaves a rate to be shared out.
+fn is_rated(item: Item) -> bool
+    ensures { λ r. ⌜ r ≡ isRated item ⌝ }
 {
-    let left = parts::set_rate(
-        place.ledger,
-        config.controller(),
-        core,
-        place.clock,
-        rate_bps,
-    );
-    if left.told {
-        let ledger = left.ledger;
-        return share(
-            Place { ledger, ..place },
-            left.core,
-            roster,
-            allocator,
-            next,
-            config,
-            rate_bps,
-            lines,
-        );
+    match item {
+        Item::Tick => true,
+        Item::SetRate(_) => true,
+        _ => false,
     }
-    let fields = fields_where(left.answer, Fields::Unchanged);
-    let said = say(place, next, left, fields, lines);
-    let after = said.core;
-    let to = said.place;
-    Rated {
-        place: to,
-        core: after,
-        roster,
-        allocator,
+}
+
+// The rate that such an item shares out: the core's, or for a rate setting the rate as given.
+fn rate_of(item: Item, rate: u32) -> u32
+    ensures { λ r. ⌜ r ≡ rateFor item rate ⌝ }
+{
+    match item {
+        Item::SetRate(rate_bps) => rate_bps,
+        _ => rate,
     }
 }
 
@@ -743,32 +789,16 @@ fn play(
                 tracker = after.tracker;
                 inflated = tracker.any_inflated();
             }
-            Item::Tick => {
-                let rate = core.rate();
-                let after = share(place, core, roster, allocator, next, config, rate, lines);
-                place = after.place;
-                roster = after.roster;
-                allocator = after.allocator;
-            }
-            Item::SetRate(rate_bps) => {
-                let after = set_rate(
-                    place,
-                    core,
-                    roster,
-                    allocator,
-                    next,
-                    config,
-                    lines,
-                    rate_bps,
-                );
-                place = after.place;
-                core = after.core;
-                roster = after.roster;
-                allocator = after.allocator;
-            }
             _ => {
                 if is_last(found) {
                     return finish(tape, place, lines);
+                }
+                if is_rated(found) {
+                    let rate = rate_of(found, core.rate());
+                    let after = share(place, core, roster, allocator, next, config, rate, lines);
+                    place = after.place;
+                    roster = after.roster;
+                    allocator = after.allocator;
                 }
             }
         }

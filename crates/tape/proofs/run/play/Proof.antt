@@ -12,10 +12,10 @@ use Rattle.control.specs.declared.controller.ControllerCore.{ControllerCore}
 use Rattle.station.specs.declared.roster.Roster.{Roster}
 use Rattle.station.specs.declared.station.StationConfig.{StationConfig}
 use Rattle.tape.specs.Item.{wordsOf, stops}
-use Rattle.tape.specs.Desk.{deskOf, endAt, isPaced, isSignal, isSample, isTick}
+use Rattle.tape.specs.Desk.{deskOf, endAt, isPaced, isSignal, isSample, isRated, rateFor}
 use Rattle.tape.specs.declared.run.Place.{Place}
 use Rattle.tape.proofs.Items.{item-inside}
-use Rattle.tape.proofs.Runs.{not-both, stands-at, further-on, apart, paced-item, untabled-item, halted-still, halted-tick, start-shell}
+use Rattle.tape.proofs.Runs.{not-both, stands-at, further-on, apart, paced-item, last-item, halted-still, halted-rated, start-shell}
 use Rattle.tape.proofs.run.play.Statement.{statement}
 use Rattle.tape.proofs.run.play.Tie as tie
 
@@ -87,7 +87,7 @@ loop-again c = let l = c .before .before .before .before .before .before .before
       same-lines = c .before .before .before .before .before .register .kept .1 .1 .1 .1 .1 .0 ∙ (signalled .kept .1 .1 .1 .1 .1 .0 ∙ (paced .kept .1 .1 .1 .1 .1 .1 .0 ∙ l .inv .same-lines));
       same-pool = paced .kept .1 .1 .1 .1 .1 .0 ∙ l .inv .same-pool;
       told = l .inv .told;
-      kept = c .before .before .before .before .before .register .ensures .1 _ st _ _ _ _ ∙ (sym (halted-still _ _ _ _ _ _ _ _ (sym (ap isTick (c .before .before .before .before .before .before .before .before .before .before .before .item-at .ensures)) ∙ ap isTick (c .before .before .before .before .before .before .before .before .found .given .1))) ∙ (signalled .ensures .1 _ (l .tracker) (l .allocator) _ _ (l .inv .told) ∙ (paced .ensures .1 (l .core) (l .tracker) (l .allocator) ∙ l .inv .kept)));
+      kept = c .before .before .before .before .before .register .ensures .1 _ st _ _ _ _ ∙ (sym (halted-still _ _ _ _ _ _ _ _ (sym (ap isRated (c .before .before .before .before .before .before .before .before .before .before .before .item-at .ensures)) ∙ ap isRated (c .before .before .before .before .before .before .before .before .found .given .1))) ∙ (signalled .ensures .1 _ (l .tracker) (l .allocator) _ _ (l .inv .told) ∙ (paced .ensures .1 (l .core) (l .tracker) (l .allocator) ∙ l .inv .kept)));
     }
 
 enum-told : tie.Need-enum-told Inv-loop μ-loop
@@ -110,50 +110,7 @@ loop-again-2 c = let l = c .before .before .before .before .before .before .befo
       same-lines = c .before .before .before .before .before .sample-on .kept .1 .1 .1 .1 .0 ∙ (signalled .kept .1 .1 .1 .1 .1 .0 ∙ (paced .kept .1 .1 .1 .1 .1 .1 .0 ∙ l .inv .same-lines));
       same-pool = paced .kept .1 .1 .1 .1 .1 .0 ∙ l .inv .same-pool;
       told = c .any-inflated2 .ensures;
-      kept = c .before .before .before .before .before .sample-on .ensures .1 _ _ _ _ _ ∙ (sym (halted-still _ _ _ _ _ _ _ _ (sym (ap isTick (c .before .before .before .before .before .before .before .before .before .before .item-at .ensures)) ∙ ap isTick (c .before .before .before .before .before .before .before .enum-told .given .1))) ∙ (signalled .ensures .1 _ (l .tracker) (l .allocator) _ _ (l .inv .told) ∙ (paced .ensures .1 (l .core) (l .tracker) (l .allocator) ∙ l .inv .kept)));
-    }
-
-enum-told-2 : tie.Need-enum-told-2 Inv-loop μ-loop
-enum-told-2 c = search needs
-
-rate-requires : tie.Need-rate-requires Inv-loop μ-loop
-rate-requires c κs = search needs
-
-share-requires : tie.Need-share-requires Inv-loop μ-loop
-share-requires c κs = search needs
-
-loop-less-3 : tie.Need-loop-less-3 Inv-loop μ-loop
-unfolding stops
-loop-less-3 c = let l = c .before .before .before .before .before .before .before .before .before .before .before .before .before .before .before .before .before .before .before .before .before .before .before .before .before .before .before .loop in let paced = c .before .before .before .before .before .before .before .before .before .before .before .before .before .before .before .before .before .before .before .before .before .before .before .pace-on in let signalled = c .before .before .before .before .before .before .before .before .before .before .before .before .before .before .before .before .signal-on in let st = stands-at _ _ _ _ _ (c .before .before .before .before .before .before .before .before .before .before .before .item-at .ensures) (c .before .before .before .before .before .before .before .before .before .before .word-after .ensures) (c .before .before .before .before .before .before .before .before .enum-told2 .given .1) in
-    let on = further-on _ _ _ _ _ st refl (ap (λ (p : Place). p .word) (c .before .before .before .before .before .share .ensures .0)) in omega (arith, paced .ensures .0 .ahead, signalled .ensures .0 .ahead, on .0, on .1)
-
-loop-again-3 : tie.Need-loop-again-3 Inv-loop μ-loop
-loop-again-3 c = let l = c .before .before .before .before .before .before .before .before .before .before .before .before .before .before .before .before .before .before .before .before .before .before .before .before .before .before .before .loop in let paced = c .before .before .before .before .before .before .before .before .before .before .before .before .before .before .before .before .before .before .before .before .before .before .before .pace-on in let signalled = c .before .before .before .before .before .before .before .before .before .before .before .before .before .before .before .before .signal-on in let st = stands-at _ _ _ _ _ (c .before .before .before .before .before .before .before .before .before .before .before .item-at .ensures) (c .before .before .before .before .before .before .before .before .before .before .word-after .ensures) (c .before .before .before .before .before .before .before .before .enum-told2 .given .1) in let shared = c .before .before .before .before .before .share .ensures in
-    record {
-      same-lines = c .before .before .before .before .before .share .kept .1 .1 .1 .1 .1 .1 .1 .0 ∙ (signalled .kept .1 .1 .1 .1 .1 .0 ∙ (paced .kept .1 .1 .1 .1 .1 .1 .0 ∙ l .inv .same-lines));
-      same-pool = paced .kept .1 .1 .1 .1 .1 .0 ∙ l .inv .same-pool;
-      told = l .inv .told;
-      kept = rw (shared .0, shared .1 .1 .0, shared .1 .1 .1 .0, shared .1 .1 .1 .1) (halted-tick _ _ _ _ _ _ _ _ _ _ st (c .before .before .before .before .before .before .before .rate .ensures) ∙ (signalled .ensures .1 _ (l .tracker) (l .allocator) _ _ (l .inv .told) ∙ (paced .ensures .1 (l .core) (l .tracker) (l .allocator) ∙ l .inv .kept)));
-    }
-
-enum-known-found-2 : tie.Need-enum-known-found-2 Inv-loop μ-loop
-enum-known-found-2 c = search needs
-
-set-rate-requires : tie.Need-set-rate-requires Inv-loop μ-loop
-set-rate-requires c κs = search needs
-
-loop-less-4 : tie.Need-loop-less-4 Inv-loop μ-loop
-unfolding stops
-loop-less-4 c = let l = c .before .before .before .before .before .before .before .before .before .before .before .before .before .before .before .before .before .before .before .before .before .before .before .before .before .before .before .before .loop in let paced = c .before .before .before .before .before .before .before .before .before .before .before .before .before .before .before .before .before .before .before .before .before .before .before .before .pace-on in let signalled = c .before .before .before .before .before .before .before .before .before .before .before .before .before .before .before .before .before .signal-on in let st = stands-at _ _ _ _ _ (c .before .before .before .before .before .before .before .before .before .before .before .before .item-at .ensures) (c .before .before .before .before .before .before .before .before .before .before .before .word-after .ensures) (c .before .before .before .before .before .before .before .before .before .found2 .given .1) in
-    let on = further-on _ _ _ _ _ st refl (c .before .before .before .before .before .before .set-rate .ensures .0) in omega (arith, paced .ensures .0 .ahead, signalled .ensures .0 .ahead, on .0, on .1)
-
-loop-again-4 : tie.Need-loop-again-4 Inv-loop μ-loop
-loop-again-4 c = let l = c .before .before .before .before .before .before .before .before .before .before .before .before .before .before .before .before .before .before .before .before .before .before .before .before .before .before .before .before .loop in let paced = c .before .before .before .before .before .before .before .before .before .before .before .before .before .before .before .before .before .before .before .before .before .before .before .before .pace-on in let signalled = c .before .before .before .before .before .before .before .before .before .before .before .before .before .before .before .before .before .signal-on in let st = stands-at _ _ _ _ _ (c .before .before .before .before .before .before .before .before .before .before .before .before .item-at .ensures) (c .before .before .before .before .before .before .before .before .before .before .before .word-after .ensures) (c .before .before .before .before .before .before .before .before .before .found2 .given .1) in
-    record {
-      same-lines = c .before .before .before .before .before .before .set-rate .kept .1 .1 .1 .1 .1 .1 .0 ∙ (signalled .kept .1 .1 .1 .1 .1 .0 ∙ (paced .kept .1 .1 .1 .1 .1 .1 .0 ∙ l .inv .same-lines));
-      same-pool = paced .kept .1 .1 .1 .1 .1 .0 ∙ l .inv .same-pool;
-      told = l .inv .told;
-      kept = c .before .before .before .before .before .before .set-rate .ensures .1 _ st _ _ _ ∙ (sym (halted-still _ _ _ _ _ _ _ _ (sym (ap isTick (c .before .before .before .before .before .before .before .before .before .before .before .before .item-at .ensures)) ∙ ap isTick (c .before .before .before .before .before .before .before .before .before .found2 .given .1))) ∙ (signalled .ensures .1 _ (l .tracker) (l .allocator) _ _ (l .inv .told) ∙ (paced .ensures .1 (l .core) (l .tracker) (l .allocator) ∙ l .inv .kept)));
+      kept = c .before .before .before .before .before .sample-on .ensures .1 _ _ _ _ _ ∙ (sym (halted-still _ _ _ _ _ _ _ _ (sym (ap isRated (c .before .before .before .before .before .before .before .before .before .before .item-at .ensures)) ∙ ap isRated (c .before .before .before .before .before .before .before .enum-told .given .1))) ∙ (signalled .ensures .1 _ (l .tracker) (l .allocator) _ _ (l .inv .told) ∙ (paced .ensures .1 (l .core) (l .tracker) (l .allocator) ∙ l .inv .kept)));
     }
 
 is-last-requires : tie.Need-is-last-requires Inv-loop μ-loop
@@ -172,22 +129,48 @@ returns : tie.Need-returns Inv-loop μ-loop
 returns c = let l = c .before .before .before .before .before .before .before .before .before .before .before .before .before .before .before .before .before .before .before .before .before .before .before .before .loop in let paced = c .before .before .before .before .before .before .before .before .before .before .before .before .before .before .before .before .before .before .before .before .pace-on in let signalled = c .before .before .before .before .before .before .before .before .before .before .before .before .before .signal-on in let x = c .before .before .before .before .before .before .before .before .before .before .before .before .before .before .before .before .before .before .before .before .before .before .before .before .before .before .before .before .before .before .before .before .before .before .before .args in
     let stopped = sym (ap stops (c .before .before .before .before .before .before .before .before .item-at .ensures)) ∙ (sym (c .before .before .before .before .before .is-last .ensures) ∙ c .before .before .before .before .if1 .taken) in
     sym (c .before .before .finish .ensures stopped _)
-    ∙ ((sym (halted-still _ _ _ _ _ _ _ _ (sym (ap isTick (c .before .before .before .before .before .before .before .before .item-at .ensures)) ∙ untabled-item (c .before .before .before .before .before .before .before .before .item-at .result) (c .before .before .before .before .before .before .match .keys5))) ∙ (signalled .ensures .1 _ (l .tracker) (l .allocator) _ _ (l .inv .told) ∙ (paced .ensures .1 (l .core) (l .tracker) (l .allocator) ∙ l .inv .kept)))
+    ∙ ((sym (halted-still _ _ _ _ _ _ _ _ (last-item _ stopped)) ∙ (signalled .ensures .1 _ (l .tracker) (l .allocator) _ _ (l .inv .told) ∙ (paced .ensures .1 (l .core) (l .tracker) (l .allocator) ∙ l .inv .kept)))
     ∙ start-shell _ _ (x .config) (x .start) _ _ _ _ _ _ _ _ (c .before .before .before .before .before .before .before .before .before .before .before .before .before .before .before .before .before .before .before .before .before .before .before .before .before .before .before .new4 .ensures) (c .before .before .before .before .before .before .before .before .before .before .before .before .before .before .before .before .before .before .before .before .before .before .before .before .before .before .new5 .ensures) (c .before .before .before .before .before .before .before .before .before .before .before .before .before .before .before .before .before .before .before .before .before .before .before .before .before .before .before .before .before .before .before .new .ensures) (c .before .before .before .before .before .before .before .before .before .before .before .before .before .before .before .before .before .before .before .before .before .before .before .before .before .before .before .before .before .before .controller .ensures) (c .before .before .before .before .before .before .before .before .before .before .before .before .before .before .before .before .before .before .before .before .before .before .before .before .before .before .before .before .before .new2 .ensures) (c .before .before .before .before .before .before .before .before .before .before .before .before .before .before .before .before .before .before .before .before .before .before .before .before .before .before .before .before .new3 .ensures))
 
-loop-less-5 : tie.Need-loop-less-5 Inv-loop μ-loop
-loop-less-5 c = let l = c .before .before .before .before .before .before .before .before .before .before .before .before .before .before .before .before .before .before .before .before .loop in let paced = c .before .before .before .before .before .before .before .before .before .before .before .before .before .before .before .before .pace-on in let signalled = c .before .before .before .before .before .before .before .before .before .signal-on in
-    let at = c .before .before .before .before .item-at in let going = sym (c .before .is-last .ensures) ∙ c .if1 .left in
-    let handed = paced-item (at .result) (c .before .before .match .keys5) going (ap isSignal (at .ensures) ∙ signalled .ensures .0 .halted refl) in
+is-rated-requires : tie.Need-is-rated-requires Inv-loop μ-loop
+is-rated-requires c κs = search needs
+
+rate-requires : tie.Need-rate-requires Inv-loop μ-loop
+rate-requires c κs = search needs
+
+rate-of-requires : tie.Need-rate-of-requires Inv-loop μ-loop
+rate-of-requires c κs = search needs
+
+share-requires : tie.Need-share-requires Inv-loop μ-loop
+share-requires c κs = search needs
+
+loop-less-3 : tie.Need-loop-less-3 Inv-loop μ-loop
+loop-less-3 c = let l = c .before .before .before .before .before .before .before .before .before .before .before .before .before .before .before .before .before .before .before .before .before .before .before .before .before .before .before .before .before .before .before .loop in let paced = c .before .before .before .before .before .before .before .before .before .before .before .before .before .before .before .before .before .before .before .before .before .before .before .before .before .before .before .pace-on in let signalled = c .before .before .before .before .before .before .before .before .before .before .before .before .before .before .before .before .before .before .before .before .signal-on in let at = c .before .before .before .before .before .before .before .before .before .before .before .before .before .before .before .item-at in let st = stands-at _ _ _ _ (at .result) (at .ensures) (c .before .before .before .before .before .before .before .before .before .before .before .before .before .before .word-after .ensures) refl in
+    let on = further-on _ _ _ _ _ st (sym (c .before .before .before .before .before .before .before .before .before .before .before .before .is-last .ensures) ∙ c .before .before .before .before .before .before .before .before .before .before .before .if1 .left) (ap (λ (p : Place). p .word) (c .before .before .before .before .before .share .ensures .0)) in omega (arith, paced .ensures .0 .ahead, signalled .ensures .0 .ahead, on .0, on .1)
+
+loop-again-3 : tie.Need-loop-again-3 Inv-loop μ-loop
+loop-again-3 c = let l = c .before .before .before .before .before .before .before .before .before .before .before .before .before .before .before .before .before .before .before .before .before .before .before .before .before .before .before .before .before .before .before .loop in let paced = c .before .before .before .before .before .before .before .before .before .before .before .before .before .before .before .before .before .before .before .before .before .before .before .before .before .before .before .pace-on in let signalled = c .before .before .before .before .before .before .before .before .before .before .before .before .before .before .before .before .before .before .before .before .signal-on in let at = c .before .before .before .before .before .before .before .before .before .before .before .before .before .before .before .item-at in let st = stands-at _ _ _ _ (at .result) (at .ensures) (c .before .before .before .before .before .before .before .before .before .before .before .before .before .before .word-after .ensures) refl in let shared = c .before .before .before .before .before .share .ensures in
+    let rate = c .before .before .before .before .before .before .before .rate-of .ensures ∙ ap (λ (n : ℕ). rateFor (at .result) n) (c .before .before .before .before .before .before .before .before .rate .ensures) in
+    record {
+      same-lines = c .before .before .before .before .before .share .kept .1 .1 .1 .1 .1 .1 .1 .0 ∙ (signalled .kept .1 .1 .1 .1 .1 .0 ∙ (paced .kept .1 .1 .1 .1 .1 .1 .0 ∙ l .inv .same-lines));
+      same-pool = paced .kept .1 .1 .1 .1 .1 .0 ∙ l .inv .same-pool;
+      told = l .inv .told;
+      kept = rw (shared .0, shared .1 .1 .0, shared .1 .1 .1 .0, shared .1 .1 .1 .1) (halted-rated _ _ _ _ _ _ _ _ _ _ _ st (sym (c .before .before .before .before .before .before .before .before .before .before .is-rated .ensures) ∙ c .before .before .before .before .before .before .before .before .before .if2 .taken) rate ∙ (signalled .ensures .1 _ (l .tracker) (l .allocator) _ _ (l .inv .told) ∙ (paced .ensures .1 (l .core) (l .tracker) (l .allocator) ∙ l .inv .kept)));
+    }
+
+loop-less-4 : tie.Need-loop-less-4 Inv-loop μ-loop
+loop-less-4 c = let l = c .before .before .before .before .before .before .before .before .before .before .before .before .before .before .before .before .before .before .before .before .before .before .loop in let paced = c .before .before .before .before .before .before .before .before .before .before .before .before .before .before .before .before .before .before .pace-on in let signalled = c .before .before .before .before .before .before .before .before .before .before .before .signal-on in
+    let at = c .before .before .before .before .before .before .item-at in let going = sym (c .before .before .before .is-last .ensures) ∙ c .before .before .if1 .left in
+    let handed = paced-item (at .result) (c .before .before .before .before .match .keys3) going (ap isSignal (at .ensures) ∙ signalled .ensures .0 .halted refl) (sym (c .before .is-rated .ensures) ∙ c .if2 .left) in
     omega (arith, paced .ensures .0 .ahead, apart _ isPaced _ _ (signalled .ensures .0 .ahead) (λ e. not-both (sym (paced .ensures .0 .halted refl) ∙ (e ∙ (sym (ap isPaced (at .ensures)) ∙ handed)))), item-inside _ _ (sym (ap stops (at .ensures)) ∙ going))
 
-loop-again-5 : tie.Need-loop-again-5 Inv-loop μ-loop
-loop-again-5 c = let l = c .before .before .before .before .before .before .before .before .before .before .before .before .before .before .before .before .before .before .before .before .loop in let paced = c .before .before .before .before .before .before .before .before .before .before .before .before .before .before .before .before .pace-on in let signalled = c .before .before .before .before .before .before .before .before .before .signal-on in
+loop-again-4 : tie.Need-loop-again-4 Inv-loop μ-loop
+loop-again-4 c = let l = c .before .before .before .before .before .before .before .before .before .before .before .before .before .before .before .before .before .before .before .before .before .before .loop in let paced = c .before .before .before .before .before .before .before .before .before .before .before .before .before .before .before .before .before .before .pace-on in let signalled = c .before .before .before .before .before .before .before .before .before .before .before .signal-on in
     record {
       same-lines = signalled .kept .1 .1 .1 .1 .1 .0 ∙ (paced .kept .1 .1 .1 .1 .1 .1 .0 ∙ l .inv .same-lines);
       same-pool = paced .kept .1 .1 .1 .1 .1 .0 ∙ l .inv .same-pool;
       told = l .inv .told;
-      kept = (sym (halted-still _ _ _ _ _ _ _ _ (sym (ap isTick (c .before .before .before .before .item-at .ensures)) ∙ untabled-item (c .before .before .before .before .item-at .result) (c .before .before .match .keys5))) ∙ (signalled .ensures .1 _ (l .tracker) (l .allocator) _ _ (l .inv .told) ∙ (paced .ensures .1 (l .core) (l .tracker) (l .allocator) ∙ l .inv .kept)));
+      kept = (sym (halted-still _ _ _ _ _ _ _ _ (sym (ap isRated (c .before .before .before .before .before .before .item-at .ensures)) ∙ (sym (c .before .is-rated .ensures) ∙ c .if2 .left))) ∙ (signalled .ensures .1 _ (l .tracker) (l .allocator) _ _ (l .inv .told) ∙ (paced .ensures .1 (l .core) (l .tracker) (l .allocator) ∙ l .inv .kept)));
     }
 
 pub play-spec : {M : Type 1} → statement M
@@ -217,19 +200,16 @@ play-spec =
     any-inflated-requires-2
     loop-less-2
     loop-again-2
-    enum-told-2
-    rate-requires
-    share-requires
-    loop-less-3
-    loop-again-3
-    enum-known-found-2
-    set-rate-requires
-    loop-less-4
-    loop-again-4
     is-last-requires
     finish-requires
     same-length
     same-length-2
     returns
-    loop-less-5
-    loop-again-5)
+    is-rated-requires
+    rate-requires
+    rate-of-requires
+    share-requires
+    loop-less-3
+    loop-again-3
+    loop-less-4
+    loop-again-4)

@@ -1,6 +1,6 @@
-use mathlib.Core.Path.{refl}
+use mathlib.Core.Path.{refl, sym, _∙_}
 use Rattle.tape.specs.Desk.{deskOf}
-use Rattle.tape.proofs.Runs.{set-rate-ends, set-rate-told-ends}
+use Rattle.tape.proofs.Runs.{set-rate-ends, set-rate-told-ends, not-both}
 use borrow.Author.Needs.{needs}
 use Rattle.tape.proofs.run.set_rate.Statement.{statement}
 use Rattle.tape.proofs.run.set_rate.Tie as tie
@@ -11,15 +11,9 @@ controller-requires c κs = search needs
 set-rate-requires : tie.Need-set-rate-requires
 set-rate-requires c κs = search needs
 
-share-requires : tie.Need-share-requires
-share-requires c κs = search needs
-
-same-length : tie.Need-same-length
-same-length c = search needs
-
 returns : tie.Need-returns
-returns c = let a = c .before .before .before .before .before .before .before .before .before .args in let shared = c .before .before .share .ensures in
-    rw (shared .0, shared .1 .0, shared .1 .1 .0, shared .1 .1 .1 .0, shared .1 .1 .1 .1) (refl, λ bytes h t words pool. set-rate-told-ends bytes _ (a .config) (deskOf (a .place) (a .core) (a .roster)) t (a .allocator) words pool (a .next) (a .rate-bps) (c .before .before .before .before .before .before .set-rate .result) h (rw (c .before .before .before .before .before .before .set-rate .ensures, c .before .before .before .before .before .before .before .controller .ensures)) (c .before .before .before .before .before .if1 .taken))
+returns c = let a = c .before .before .before .before .before .before .args in
+    (λ e. absurd (not-both e), (λ e. refl, (λ bytes inflated h e. absurd (not-both e), λ bytes inflated h e g t w words pool ei. set-rate-told-ends bytes _ (a .config) (deskOf (a .place) (a .core) g) t w words pool (a .next) (a .rate-bps) (c .before .before .before .set-rate .result) h (rw (c .before .before .before .set-rate .ensures, c .before .before .before .before .controller .ensures)) (c .before .before .if1 .taken))))
 
 fields-where-requires : tie.Need-fields-where-requires
 fields-where-requires c κs = search needs
@@ -27,12 +21,12 @@ fields-where-requires c κs = search needs
 say-requires : tie.Need-say-requires
 say-requires c κs = search needs
 
-same-length-2 : tie.Need-same-length-2
-same-length-2 c = search needs
+same-length : tie.Need-same-length
+same-length c = search needs
 
 returns-2 : tie.Need-returns-2
-returns-2 c = let a = c .before .before .before .before .before .before .before .before .before .before .before .args in let said = c .before .before .before .before .say .ensures in
-    rw (said .0, said .1 .0, said .1 .1 .1) (refl, λ bytes h t words pool. set-rate-ends bytes _ (a .config) (deskOf (a .place) (a .core) (a .roster)) t (a .allocator) words pool (a .next) (a .rate-bps) (c .before .before .before .before .before .before .before .before .set-rate .result) _ h (rw (c .before .before .before .before .before .before .before .before .set-rate .ensures, c .before .before .before .before .before .before .before .before .before .controller .ensures)) (c .before .before .before .before .before .before .before .if1 .left) (c .before .before .before .before .before .before .fields-where .ensures))
+returns-2 c = let a = c .before .before .before .before .before .before .before .before .before .args in let said = c .before .before .say .ensures in
+    rw (said .0, said .1 .0, said .1 .1 .1) (λ e. refl, (λ e. absurd (not-both (sym e ∙ said .1 .1 .0)), (λ bytes inflated h e g t w words pool ei. set-rate-ends bytes _ (a .config) (deskOf (a .place) (a .core) g) t w words pool (a .next) (a .rate-bps) (c .before .before .before .before .before .before .set-rate .result) _ h (rw (c .before .before .before .before .before .before .set-rate .ensures, c .before .before .before .before .before .before .before .controller .ensures)) (c .before .before .before .before .before .if1 .left) (c .before .before .before .before .fields-where .ensures), λ bytes inflated h e. absurd (not-both (sym e ∙ said .1 .1 .0)))))
 
 pub set-rate-spec : {M : Type 1} → statement M
 set-rate-spec =
@@ -40,10 +34,8 @@ set-rate-spec =
     (tie.spec
     controller-requires
     set-rate-requires
-    share-requires
-    same-length
     returns
     fields-where-requires
     say-requires
-    same-length-2
+    same-length
     returns-2)
