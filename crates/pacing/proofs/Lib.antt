@@ -7,3 +7,4 @@ pub mod Counts
 pub mod Records
 pub mod Waits
 pub mod Credit
+mod Keys

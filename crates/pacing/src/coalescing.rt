@@ -1,8 +1,8 @@
 // The coalescing queue for background records: under one key only the latest is kept. And the keys, with the hash they are made with.
 ghost use mathlib.Core.Path.{_≡_};
-ghost use lib.ListN.{length};
+ghost use lib.ListN.{length, drop};
 ghost use Rattle.config.specs.Refusal.{answerOf};
-ghost use Rattle.pacing.specs.Coalescing.{fnv1a, joined, keyOf, keylessOf, newQueue, found, inserted, poppedFront, exchanged, insertNoted, statsIn};
+ghost use Rattle.pacing.specs.Coalescing.{fnv1a, joined, joinedAll, keyOf, keylessOf, newQueue, found, inserted, poppedFront, exchanged, insertNoted, statsIn};
 ghost use Rattle.pacing.specs.CoalescingQueueAlone.{frontIn, makingChecks, insertChecks, popChecks, insertWritten, insertStored, insertedBy, wordsInsertedBy, poolInsertedBy, frontNoted, poppedBy, wordsPoppedBy, madeAlone, resumedAlone, insertedAlone, poolInserted, poppedAlone, peekedAlone, shownBytes};
 use crate::entries;
 use crate::entries::Entry;
@@ -56,21 +56,40 @@ impl InstanceKey {
     }
 }
 
-// FNV-1a: each byte is joined by xor, then the product with the prime is taken modulo 2^64.
+// FNV-1a: each byte is joined by xor, then the product with the prime is taken modulo 2^64. Eight bytes go in a turn, then the rest.
 pub fn hash_bytes(bytes: &[u8]) -> u64
     ensures { λ r. ⌜ r ≡ fnv1a (now (bytes .entry)) ⌝ }
 {
+    let eights = bytes.len() - bytes.len() % 8;
     let mut hash = FNV1A_OFFSET_BASIS;
     let mut i = 0;
+    while i < eights {
+        let half = join_four(hash, bytes[i], bytes[i + 1], bytes[i + 2], bytes[i + 3]);
+        hash = join_four(half, bytes[i + 4], bytes[i + 5], bytes[i + 6], bytes[i + 7]);
+        i += 8;
+    }
+    join_rest(hash, bytes, eights)
+}
+
+// A hash with every byte from a place on.
+fn join_rest(before: u64, bytes: &[u8], from: usize) -> u64
+    ensures { λ r. ⌜ r ≡ joinedAll before (drop from (now (bytes .entry))) ⌝ }
+{
+    let mut hash = before;
+    let mut i = from;
     while i < bytes.len() {
         hash = join(hash, bytes[i]);
         i += 1;
-        if i < bytes.len() {
-            hash = join_swapped(hash, bytes[i]);
-            i += 1;
-        }
     }
     hash
+}
+
+// A hash with four bytes more; of every second product the factors are swapped.
+fn join_four(hash: u64, first: u8, second: u8, third: u8, fourth: u8) -> u64
+    ensures { λ r. ⌜ r ≡ joined (joined (joined (joined hash first) second) third) fourth ⌝ }
+{
+    let half = join_swapped(join(hash, first), second);
+    join_swapped(join(half, third), fourth)
 }
 
 // A hash with one byte more.

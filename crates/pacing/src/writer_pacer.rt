@@ -428,13 +428,21 @@ impl PacerCore {
         }
     }
 
-    // P0 before P1 before P2.
+    // P0 before P1 before P2; where nothing waits the core goes back as it came.
     pub fn try_send(mut self, words: &[u64], i: u8, time: u64) -> Attempt
         ensures { λ r. ⌜ r ≡ attempt self (now (words .entry)) i time ⌝ }
     {
         let queues = self.queues;
         if 0 < queues.p0.count {
             return self.send_p0(words, i, time);
+        }
+        if queues.p1.count == 0 {
+            if queues.p2.ring.count == 0 {
+                return Attempt {
+                    core: self,
+                    action: SendAction::Empty,
+                };
+            }
         }
         let p1 = try_paid(self.tokens, queues, words, i, Priority::P1, time);
         let after_p1 = p1.bucket;

@@ -1,7 +1,7 @@
 -- A table that is full for a peer takes no sample of it; a sample comes to the same on its row alone. Assumes nothing.
-use Prim.Native.Nat.{ℕ, zero, suc, _<_, _≤_}
+use Prim.Native.Nat.{ℕ, _<_, _≤_}
 use mathlib.Core.Bool.{Bool, true, false, cond, false≢true}
-use mathlib.Core.List.{List, [], _∷_}
+use mathlib.Core.List.{List}
 use mathlib.Core.Path.{_≡_, refl, ap, ap₂, sym, subst}
 use native.Mathlib.Decide.{decLe}
 use native.Mathlib.Omega.{arith}
@@ -9,7 +9,8 @@ use borrow.Author.Tests.{leb-true, le-leb, lt-leb, le-ltb, lt-ltb}
 use lib.Dec.{ltb, leb, eqb}
 use lib.Ieee.{Float}
 use lib.ListN.{getD, set}
-use Rattle.numeric.specs.Search.{first}
+use lib.Seq.{set-getD}
+use Rattle.numeric.proofs.Search.{first-most, first-found, first-before}
 use Rattle.signals.specs.RttEstimator.{placeOf, knownOf, trackerOf, estimatorAt, updated, updatedAt, enteredAt, trackerUpdated, fullFor, noEstimator, seatOf, rowAt, withRow, rowEntered}
 use Rattle.signals.specs.declared.rtt_estimator.PeerRttTracker.{PeerRttTracker}
 
@@ -24,44 +25,10 @@ full-kept t time id x = go (ltb (placeOf (t .ids) (t .count) id) (knownOf (t .co
 
 -- ---- a row of the table
 
-set-kept : {A : Type 0} (l : List A) (i : ℕ) (d : A) → set l i (getD l i d) ≡ l
-set-kept [] i d = refl
-set-kept (x ∷ l) zero d = refl
-set-kept (x ∷ l) (suc i) d = ap (λ (r : List _). x ∷ r) (set-kept l i d)
-
 -- a row put back leaves the table as it is
 pub row-kept : (t : PeerRttTracker) (k : ℕ) → withRow t k (rowAt t k) ≡ t
 row-kept t k =
-    ap₂ (λ (ids : List ℕ) (peers : List _). trackerOf ids peers (t .count) (t .«default_ms»)) (set-kept (t .ids) k 0) (set-kept (t .peers) k noEstimator)
-
--- a search's next place, with what is known of the places behind the first
-found-next : (p : ℕ → Bool) (n m : ℕ) (b : Bool) → p 0 ≡ b → (m < n → p (suc m) ≡ true) → cond b 0 (suc m) < suc n → p (cond b 0 (suc m)) ≡ true
-found-next p n m true e rest h = e
-found-next p n m false e rest h = rest (omega (arith, h))
-
-none-next : (p : ℕ → Bool) (m : ℕ) (b : Bool) → p 0 ≡ b → ((j : ℕ) → j < m → p (suc j) ≡ false) → (j : ℕ) → j < cond b 0 (suc m) → p j ≡ false
-none-next p m true e rest j h = absurd (omega (arith, h))
-none-next p m false e rest zero h = e
-none-next p m false e rest (suc j) h = rest j (omega (arith, h))
-
-most-next : (n m : ℕ) (b : Bool) → m ≤ n → cond b 0 (suc m) ≤ suc n
-most-next n m true h = omega arith
-most-next n m false h = omega (arith, h)
-
-first-found : (p : ℕ → Bool) (n : ℕ) → first p n < n → p (first p n) ≡ true
-unfolding first
-first-found p zero h = absurd (omega (arith, h))
-first-found p (suc n) h = found-next p n _ (p 0) refl (first-found (λ (k : ℕ). p (suc k)) n) h
-
-none-before : (p : ℕ → Bool) (n j : ℕ) → j < first p n → p j ≡ false
-unfolding first
-none-before p zero j h = absurd (omega (arith, h))
-none-before p (suc n) j h = none-next p _ (p 0) refl (none-before (λ (k : ℕ). p (suc k)) n) j h
-
-first-most : (p : ℕ → Bool) (n : ℕ) → first p n ≤ n
-unfolding first
-first-most p zero = omega arith
-first-most p (suc n) = most-next n _ (p 0) (first-most (λ (k : ℕ). p (suc k)) n)
+    ap₂ (λ (ids : List ℕ) (peers : List _). trackerOf ids peers (t .count) (t .«default_ms»)) (set-getD (t .ids) k 0) (set-getD (t .peers) k noEstimator)
 
 -- where a search ends: at the peer, or behind all
 place-found : (ids : List ℕ) (count id : ℕ) → placeOf ids count id < knownOf count → eqb (getD ids (placeOf ids count id) 0) id ≡ true
@@ -70,7 +37,7 @@ place-found ids count id h = first-found (λ (k : ℕ). eqb (getD ids k 0) id) (
 
 place-none : (ids : List ℕ) (count id j : ℕ) → j < placeOf ids count id → eqb (getD ids j 0) id ≡ false
 unfolding placeOf
-place-none ids count id j h = none-before (λ (k : ℕ). eqb (getD ids k 0) id) (knownOf count) j h
+place-none ids count id j h = first-before (λ (k : ℕ). eqb (getD ids k 0) id) (knownOf count) j h
 
 place-most : (ids : List ℕ) (count id : ℕ) → placeOf ids count id ≤ knownOf count
 unfolding placeOf
@@ -87,7 +54,7 @@ known-row :
 unfolding rowEntered trackerUpdated fullFor
 known-row t k time id x h e same =
     rw (← e, lt-leb (knownOf (t .count)) k h, same, lt-ltb k (knownOf (t .count)) h)
-    (ap (λ (ids : List ℕ). trackerOf ids (set (t .peers) k (updated (estimatorAt t k) time x)) (t .count) (t .«default_ms»)) (set-kept (t .ids) k 0), refl)
+    (ap (λ (ids : List ℕ). trackerOf ids (set (t .peers) k (updated (estimatorAt t k) time x)) (t .count) (t .«default_ms»)) (set-getD (t .ids) k 0), refl)
 
 new-row :
     (t : PeerRttTracker) (k time id : ℕ) (x : Float) → k < 64 → k ≡ knownOf (t .count) → placeOf (t .ids) (t .count) id ≡ k → RowLike t k time id x

@@ -1,6 +1,6 @@
 -- The list of items, one item at a time: an item that does not stop the tape is whole, and the list goes on behind it. Assumes nothing.
 use Prim.Native.Nat.{ℕ, zero, suc, _+_, _-_, _/_, _%_, _^_, _≤_, _<_}
-use mathlib.Core.Bool.{true, false}
+use mathlib.Core.Bool.{true, false, true≢false}
 use mathlib.Core.List.{List, [], _∷_}
 use mathlib.Core.Path.{_≡_, refl, ap, _∙_}
 use native.Mathlib.Decide.{decLe}
@@ -94,9 +94,6 @@ module _ (bytes : List ℕ) (k : ℕ) (first : k + 1 ≤ wholeWords bytes) where
   inside : (word : ℕ) → Inside (itemOf bytes k word)
   inside word = inside-kind (kindOf word) (valueOf word) (omega arith)
 
-stops-not : true ≡ false → ⊥
-stops-not e = let z : _≡_ {A = ℕ} 0 1 = cc in omega arith
-
 module _ (bytes : List ℕ) where
   -- an item that does not stop the tape is whole
   pub item-whole : (k : ℕ) → stops (itemAt bytes k) ≡ false → k + takes (itemAt bytes k) ≤ wholeWords bytes
@@ -104,7 +101,7 @@ module _ (bytes : List ℕ) where
   item-whole k =
       by-test (λ (i : Item). stops i ≡ false → k + takes i ≤ wholeWords bytes) (leb 1 (wordsFrom bytes k))
       (λ e s. inside bytes k (omega (arith, leb-true 1 (wordsFrom bytes k) e)) (wordAt bytes k) .0)
-      (λ e s. absurd (stops-not s))
+      (λ e s. absurd (true≢false s))
 
   -- an item's id is short
   pub item-id : (k : ℕ) → ShortId (itemAt bytes k)

@@ -1,7 +1,8 @@
 -- One item of a run at a time: its line, and the run's end from the next item on. Assumes nothing.
 use Prim.Native.Nat.{ℕ, _+_, _-_, _*_, _/_, _<_, _≤_, min, max}
-use mathlib.Core.Bool.{Bool, true, false, not, cond}
+use mathlib.Core.Bool.{Bool, true, false, not, cond, false≢true, _||_}
 use mathlib.Core.List.{List, [], _∷_, _++_, append-assoc, append-nil}
+use mathlib.Core.Logic.{inl, inr}
 use mathlib.Core.Path.{_≡_, refl, ap, ap₂, sym, subst, _∙_}
 use native.Mathlib.Decide.{decLe}
 use native.Mathlib.Omega.{arith}
@@ -10,7 +11,7 @@ use types.Run.{OneOf, miss}
 use borrow.Author.Tests.{le-leb, le-ltb, lt-ltb, ltb-false}
 use lib.Dec.{ltb, eqb}
 use lib.Ieee.{Float, binary32, ofBits}
-use lib.ListN.{length, drop, replicate, length-append}
+use lib.ListN.{length, drop, replicate, length-append, getD}
 use Rattle.config.specs.Ledger.{opened, moved, timedChecks, rateChecks}
 use Rattle.config.specs.Refusal.{answerOf}
 use Rattle.config.specs.declared.config.CongestionConfig.{CongestionConfig}
@@ -42,7 +43,7 @@ use Rattle.station.specs.declared.station.StationAnswer.{StationAnswer}
 use Rattle.station.specs.declared.station.StationConfig.{StationConfig}
 use Rattle.station.proofs.Rows.{leftIn, sampled-row}
 use Rattle.station.proofs.Shells.{handed-parts, pool-parts, sent-parts, eagain-parts, nacks-parts, tos-parts, untold-shell, tick-shell, rated-parts, register-parts, rtt-parts, rosterIn, trackerIn, rateIn}
-use Rattle.tape.specs.Desk.{Desk, placeOf, deskOf, stationAt, playerAt, endAt, Stands, isAdvance, isPaced, isSignal, isSample, isRated, rateFor, peerOf, Onward, sharedFor, sharedEnd, haltedAt, haltedEnd, restOf, Ending, endingOf, endedWith, newStationWith}
+use Rattle.tape.specs.Desk.{Desk, placeOf, deskOf, stationAt, playerAt, endAt, Stands, isAdvance, isPaced, isSignal, isSample, isRated, ownerOf, rateFor, peerOf, Onward, sharedFor, sharedEnd, haltedAt, haltedEnd, restOf, Ending, endingOf, endedWith, newStationWith}
 use Rattle.tape.specs.Item.{wordsOf, wordsFrom, itemAt, takes, stops, wordAfter, keyAt, bodyAt}
 use Rattle.tape.specs.Run.{Player, playerOf, Told, fields, updates, toldText, Line, lineOf, fieldsWhere, actionFields, rateTold, Step, silent, saying, called, plain, rated, sentBy, played, linesOf, textOf, advanced, tapeSettings, newPlayer, tapeText, roomFor, runOf, ranTape, linesLeft}
 use Rattle.tape.specs.Text.{written, ended, header, fieldsText, lineText}
@@ -57,17 +58,6 @@ use Rattle.tape.proofs.Texts.{written-written, ended-ended, length-writ
 -- the bytes of a line
 abbrev spoken : Line → List ℕ
 spoken l = lineText (l .index) (l .answer) (toldText (l .told))
-
-pub not-both : false ≡ true → ⊥
-not-both e = omega (arith, ap (λ (b : Bool). cond {A = ℕ} b 1 0) e)
-
-pub not-true : (b : Bool) → not b ≡ true → b ≡ false
-not-true true e = absurd (not-both e)
-not-true false e = refl
-
-pub not-false : (b : Bool) → not b ≡ false → b ≡ true
-not-false true e = refl
-not-false false e = absurd (not-both (sym e))
 
 -- ---- the next item
 
@@ -366,7 +356,7 @@ told-accepted a l k time told after = go (eqb a 0)
         (b : Bool) → cond {A = CoreLeft} b (coreLeft 0 told (moved l time) after) (coreLeft a false l k) .told ≡ true
         → cond {A = CoreLeft} b (coreLeft 0 told (moved l time) after) (coreLeft a false l k) .answer ≡ 0
     go true e = refl
-    go false e = absurd (not-both e)
+    go false e = absurd (false≢true e)
 
 tick-accepted :
     (l : Ledger) (c : ControllerConfig) (k : ControllerCore) (inflated : Bool) (time : ℕ) → tickedCore l c k inflated time .told ≡ true → tickedCore l c k inflated time .answer ≡ 0
@@ -438,90 +428,82 @@ pub broken-ends :
 unfolding endingOf linesOf textOf played
 broken-ends bytes ls at p k e = rw (items-broken bytes k e, append-nil (lineText k 5 (fieldsText Nothing)))
 
--- ---- which items are which, by the tag of the last arm
+-- ---- which items are which, by the tags of a match's last arm
+
+-- whose the variants of `Item` are, in the order of their tags
+owners : List ℕ
+owners = 0 ∷ 0 ∷ 1 ∷ 5 ∷ 3 ∷ 3 ∷ 3 ∷ 4 ∷ 6 ∷ 2 ∷ 2 ∷ 6 ∷ []
+
+owner-at : (i : Item) → ownerOf i ≡ getD owners (tagOf the-type i) 0
+unfolding owners
+owner-at End = refl
+owner-at Broken = refl
+owner-at (Advance v) = refl
+owner-at (Register c id) = refl
+owner-at Eagain = refl
+owner-at (Tos tos) = refl
+owner-at (Nacks count) = refl
+owner-at (Rtt peer bits) = refl
+owner-at Tick = refl
+owner-at (HandIn i c n) = refl
+owner-at (Send i) = refl
+owner-at (SetRate rate) = refl
+
+neither : (a b : Bool) → (a || b) ≡ false → (a ≡ false) × (b ≡ false)
+neither true b e = absurd (false≢true (sym e))
+neither false b e = (refl, e)
+
+passed : (ℕ → Bool) → List ℕ → Bool
+passed p [] = false
+passed p (k ∷ ks) = p k || passed p ks
+
+-- a test that no key passes fails where one of the keys is
+none-key : (k : ℕ) (ks : List ℕ) (p : ℕ → Bool) (x : ℕ) → passed p (k ∷ ks) ≡ false → OneOf (k ∷ ks) x → p x ≡ false
+unfolding passed
+none-key k [] p x e h = ap p h ∙ neither (p k) false e .0
+none-key k (k′ ∷ ks) p x e (inl h) = ap p h ∙ neither (p k) (passed p (k′ ∷ ks)) e .0
+none-key k (k′ ∷ ks) p x e (inr h) = none-key k′ ks p x (neither (p k) (passed p (k′ ∷ ks)) e .1) h
+
+-- an item of a last arm is nobody's of whom none of its variants is
+abbrev Unowned : List ℕ → ℕ → Type 0
+Unowned keys owner = (i : Item) → OneOf keys (tagOf the-type i) → eqb (ownerOf i) owner ≡ false
+
+unowned : (keys : List ℕ) (owner : ℕ) → passed (λ (x : ℕ). eqb (getD owners x 0) owner) keys ≡ false → Unowned keys owner
+unowned [] owner e i h = absurd h
+unowned (k ∷ ks) owner e i h = ap (λ (o : ℕ). eqb o owner) (owner-at i) ∙ none-key k ks (λ (x : ℕ). eqb (getD owners x 0) owner) (tagOf the-type i) e h
 
 -- what is none of a match's own items
 abbrev pub stillTags : List ℕ
 stillTags = 0 ∷ 1 ∷ 3 ∷ 4 ∷ 5 ∷ 6 ∷ 7 ∷ 8 ∷ 9 ∷ 10 ∷ 11 ∷ []
 
 pub still-item : (i : Item) → OneOf stillTags (tagOf the-type i) → isAdvance i ≡ false
-still-item End h = refl
-still-item Broken h = refl
-still-item (Advance v) h = absurd (miss stillTags 2 tt h)
-still-item (Register c id) h = refl
-still-item Eagain h = refl
-still-item (Tos tos) h = refl
-still-item (Nacks count) h = refl
-still-item (Rtt peer bits) h = refl
-still-item Tick h = refl
-still-item (HandIn i c n) h = refl
-still-item (Send i) h = refl
-still-item (SetRate rate) h = refl
+unfolding owners passed
+still-item = unowned stillTags 1 refl
 
 abbrev pub unpacedTags : List ℕ
 unpacedTags = 0 ∷ 1 ∷ 2 ∷ 3 ∷ 4 ∷ 5 ∷ 6 ∷ 7 ∷ 8 ∷ 11 ∷ []
 
 pub unpaced-item : (i : Item) → OneOf unpacedTags (tagOf the-type i) → isAdvance i ≡ false → isPaced i ≡ false
-unpaced-item End h e = refl
-unpaced-item Broken h e = refl
-unpaced-item (Advance v) h e = absurd (not-both (sym e))
-unpaced-item (Register c id) h e = refl
-unpaced-item Eagain h e = refl
-unpaced-item (Tos tos) h e = refl
-unpaced-item (Nacks count) h e = refl
-unpaced-item (Rtt peer bits) h e = refl
-unpaced-item Tick h e = refl
-unpaced-item (HandIn i c n) h e = absurd (miss unpacedTags 9 tt h)
-unpaced-item (Send i) h e = absurd (miss unpacedTags 10 tt h)
-unpaced-item (SetRate rate) h e = refl
+unfolding owners passed
+unpaced-item i h e = ap₂ _||_ e (unowned unpacedTags 2 refl i h)
 
 abbrev pub unsignalledTags : List ℕ
 unsignalledTags = 0 ∷ 1 ∷ 2 ∷ 3 ∷ 7 ∷ 9 ∷ 10 ∷ []
 
 pub unsignalled-item : (i : Item) → OneOf unsignalledTags (tagOf the-type i) → isAdvance i ≡ false → isSignal i ≡ false
-unsignalled-item End h e = refl
-unsignalled-item Broken h e = refl
-unsignalled-item (Advance v) h e = absurd (not-both (sym e))
-unsignalled-item (Register c id) h e = refl
-unsignalled-item Eagain h e = absurd (miss unsignalledTags 4 tt h)
-unsignalled-item (Tos tos) h e = absurd (miss unsignalledTags 5 tt h)
-unsignalled-item (Nacks count) h e = absurd (miss unsignalledTags 6 tt h)
-unsignalled-item (Rtt peer bits) h e = refl
-unsignalled-item Tick h e = absurd (miss unsignalledTags 8 tt h)
-unsignalled-item (HandIn i c n) h e = refl
-unsignalled-item (Send i) h e = refl
-unsignalled-item (SetRate rate) h e = absurd (miss unsignalledTags 11 tt h)
+unfolding owners passed
+unsignalled-item i h e = ap₂ _||_ e (unowned unsignalledTags 3 refl i h)
 
 pub unrated-item : (i : Item) → OneOf unsignalledTags (tagOf the-type i) → isRated i ≡ false
-unrated-item End h = refl
-unrated-item Broken h = refl
-unrated-item (Advance v) h = refl
-unrated-item (Register c id) h = refl
-unrated-item Eagain h = absurd (miss unsignalledTags 4 tt h)
-unrated-item (Tos tos) h = absurd (miss unsignalledTags 5 tt h)
-unrated-item (Nacks count) h = absurd (miss unsignalledTags 6 tt h)
-unrated-item (Rtt peer bits) h = refl
-unrated-item Tick h = absurd (miss unsignalledTags 8 tt h)
-unrated-item (HandIn i c n) h = refl
-unrated-item (Send i) h = refl
-unrated-item (SetRate rate) h = absurd (miss unsignalledTags 11 tt h)
+unfolding owners passed
+unrated-item = unowned unsignalledTags 6 refl
 
 abbrev pub unsampledTags : List ℕ
 unsampledTags = 0 ∷ 1 ∷ 2 ∷ 3 ∷ 4 ∷ 5 ∷ 6 ∷ 8 ∷ 9 ∷ 10 ∷ 11 ∷ []
 
 pub unsampled-item : (i : Item) → OneOf unsampledTags (tagOf the-type i) → isAdvance i ≡ false → isSample i ≡ false
-unsampled-item End h e = refl
-unsampled-item Broken h e = refl
-unsampled-item (Advance v) h e = absurd (not-both (sym e))
-unsampled-item (Register c id) h e = refl
-unsampled-item Eagain h e = refl
-unsampled-item (Tos tos) h e = refl
-unsampled-item (Nacks count) h e = refl
-unsampled-item (Rtt peer bits) h e = absurd (miss unsampledTags 7 tt h)
-unsampled-item Tick h e = refl
-unsampled-item (HandIn i c n) h e = refl
-unsampled-item (Send i) h e = refl
-unsampled-item (SetRate rate) h e = refl
+unfolding owners passed
+unsampled-item i h e = ap₂ _||_ e (unowned unsampledTags 4 refl i h)
 
 abbrev pub goingTags : List ℕ
 goingTags = 2 ∷ 3 ∷ 4 ∷ 5 ∷ 6 ∷ 7 ∷ 8 ∷ 9 ∷ 10 ∷ 11 ∷ []
@@ -549,16 +531,16 @@ pub end-item : (i : Item) → OneOf soundTags (tagOf the-type i) → stops i ≡
 unfolding stops
 end-item End h e = refl
 end-item Broken h e = absurd (miss soundTags 1 tt h)
-end-item (Advance v) h e = absurd (not-both e)
-end-item (Register c id) h e = absurd (not-both e)
-end-item Eagain h e = absurd (not-both e)
-end-item (Tos tos) h e = absurd (not-both e)
-end-item (Nacks count) h e = absurd (not-both e)
-end-item (Rtt peer bits) h e = absurd (not-both e)
-end-item Tick h e = absurd (not-both e)
-end-item (HandIn i c n) h e = absurd (not-both e)
-end-item (Send i) h e = absurd (not-both e)
-end-item (SetRate rate) h e = absurd (not-both e)
+end-item (Advance v) h e = absurd (false≢true e)
+end-item (Register c id) h e = absurd (false≢true e)
+end-item Eagain h e = absurd (false≢true e)
+end-item (Tos tos) h e = absurd (false≢true e)
+end-item (Nacks count) h e = absurd (false≢true e)
+end-item (Rtt peer bits) h e = absurd (false≢true e)
+end-item Tick h e = absurd (false≢true e)
+end-item (HandIn i c n) h e = absurd (false≢true e)
+end-item (Send i) h e = absurd (false≢true e)
+end-item (SetRate rate) h e = absurd (false≢true e)
 
 -- what neither enters a table nor stops the tape nor is a signal nor has a rate to share out is the pacers'
 abbrev pub untabledTags : List ℕ
@@ -566,34 +548,34 @@ untabledTags = 0 ∷ 1 ∷ 2 ∷ 4 ∷ 5 ∷ 6 ∷ 8 ∷ 9 ∷ 10 ∷ 11 ∷ []
 
 pub paced-item : (i : Item) → OneOf untabledTags (tagOf the-type i) → stops i ≡ false → isSignal i ≡ false → isRated i ≡ false → isPaced i ≡ true
 unfolding stops
-paced-item End h e f g = absurd (not-both (sym e))
-paced-item Broken h e f g = absurd (not-both (sym e))
-paced-item (Advance v) h e f g = absurd (not-both (sym f))
+paced-item End h e f g = absurd (false≢true (sym e))
+paced-item Broken h e f g = absurd (false≢true (sym e))
+paced-item (Advance v) h e f g = absurd (false≢true (sym f))
 paced-item (Register c id) h e f g = absurd (miss untabledTags 3 tt h)
-paced-item Eagain h e f g = absurd (not-both (sym f))
-paced-item (Tos tos) h e f g = absurd (not-both (sym f))
-paced-item (Nacks count) h e f g = absurd (not-both (sym f))
+paced-item Eagain h e f g = absurd (false≢true (sym f))
+paced-item (Tos tos) h e f g = absurd (false≢true (sym f))
+paced-item (Nacks count) h e f g = absurd (false≢true (sym f))
 paced-item (Rtt peer bits) h e f g = absurd (miss untabledTags 7 tt h)
-paced-item Tick h e f g = absurd (not-both (sym g))
+paced-item Tick h e f g = absurd (false≢true (sym g))
 paced-item (HandIn i c n) h e f g = refl
 paced-item (Send i) h e f g = refl
-paced-item (SetRate rate) h e f g = absurd (not-both (sym g))
+paced-item (SetRate rate) h e f g = absurd (false≢true (sym g))
 
 -- no rate is shared out where the tape stops
 pub last-item : (i : Item) → stops i ≡ true → isRated i ≡ false
 unfolding stops
 last-item End e = refl
 last-item Broken e = refl
-last-item (Advance v) e = absurd (not-both e)
-last-item (Register c id) e = absurd (not-both e)
-last-item Eagain e = absurd (not-both e)
-last-item (Tos tos) e = absurd (not-both e)
-last-item (Nacks count) e = absurd (not-both e)
-last-item (Rtt peer bits) e = absurd (not-both e)
-last-item Tick e = absurd (not-both e)
-last-item (HandIn i c n) e = absurd (not-both e)
-last-item (Send i) e = absurd (not-both e)
-last-item (SetRate rate) e = absurd (not-both e)
+last-item (Advance v) e = absurd (false≢true e)
+last-item (Register c id) e = absurd (false≢true e)
+last-item Eagain e = absurd (false≢true e)
+last-item (Tos tos) e = absurd (false≢true e)
+last-item (Nacks count) e = absurd (false≢true e)
+last-item (Rtt peer bits) e = absurd (false≢true e)
+last-item Tick e = absurd (false≢true e)
+last-item (HandIn i c n) e = absurd (false≢true e)
+last-item (Send i) e = absurd (false≢true e)
+last-item (SetRate rate) e = absurd (false≢true e)
 
 abbrev pub ungivenTags : List ℕ
 ungivenTags = 0 ∷ 1 ∷ 2 ∷ 3 ∷ 4 ∷ 5 ∷ 6 ∷ 7 ∷ 8 ∷ 9 ∷ 10 ∷ []
@@ -616,18 +598,8 @@ abbrev pub unsharedTags : List ℕ
 unsharedTags = 0 ∷ 1 ∷ 2 ∷ 3 ∷ 4 ∷ 5 ∷ 6 ∷ 7 ∷ 9 ∷ 10 ∷ []
 
 pub unshared-item : (i : Item) → OneOf unsharedTags (tagOf the-type i) → false ≡ isRated i
-unshared-item End h = refl
-unshared-item Broken h = refl
-unshared-item (Advance v) h = refl
-unshared-item (Register c id) h = refl
-unshared-item Eagain h = refl
-unshared-item (Tos tos) h = refl
-unshared-item (Nacks count) h = refl
-unshared-item (Rtt peer bits) h = refl
-unshared-item Tick h = absurd (miss unsharedTags 8 tt h)
-unshared-item (HandIn i c n) h = refl
-unshared-item (Send i) h = refl
-unshared-item (SetRate rate) h = absurd (miss unsharedTags 11 tt h)
+unfolding owners passed
+unshared-item i h = sym (unowned unsharedTags 6 refl i h)
 
 pub peerless-item : (i : Item) → OneOf unsampledTags (tagOf the-type i) → 0 ≡ peerOf i
 peerless-item End h = refl
@@ -670,18 +642,18 @@ moved-on bytes goes from word to moved item next ha h es ew em =
       ahead = omega (arith, ha, on .0);
       inside = λ e. on .1;
       further = λ e. (omega (arith, ha, on .0), on .1);
-      halted = λ e. absurd (not-both (sym e ∙ em));
+      halted = λ e. absurd (false≢true (sym e ∙ em));
     }
 
 -- an item that is none of a loop's
 pub halted-on :
     (bytes : List ℕ) (goes : Item → Bool) (from to : ℕ) → Onward bytes isAdvance from to false → goes (itemAt bytes to) ≡ false → Onward bytes goes from to false
 halted-on bytes goes from to o h =
-    record { ahead = o .ahead; inside = o .inside; further = λ e. absurd (not-both e); halted = λ e. h }
+    record { ahead = o .ahead; inside = o .inside; further = λ e. absurd (false≢true e); halted = λ e. h }
 
 -- no advance
 pub still-on : (bytes : List ℕ) (word : ℕ) → isAdvance (itemAt bytes word) ≡ false → Onward bytes isAdvance word word false
-still-on bytes word h = record { ahead = omega arith; inside = λ e. e; further = λ e. absurd (not-both e); halted = λ e. h }
+still-on bytes word h = record { ahead = omega arith; inside = λ e. e; further = λ e. absurd (false≢true e); halted = λ e. h }
 
 -- a tick or a rate setting, which halts where a rate is to be shared out
 pub rated-on :
@@ -733,7 +705,7 @@ pub since :
     (bytes : List ℕ) (goes : Item → Bool) (from mid to : ℕ) (moved : Bool) → Reached bytes from mid → Onward bytes goes mid to moved → moved ≡ false → Onward bytes goes from to false
 since bytes goes from mid to moved h o em =
     let on = reached-on bytes goes from mid to moved h o in
-    record { ahead = on .0; inside = on .1; further = λ e. absurd (not-both e); halted = λ e. o .halted em }
+    record { ahead = on .0; inside = on .1; further = λ e. absurd (false≢true e); halted = λ e. o .halted em }
 
 -- words with unlike items are apart
 pub apart : (bytes : List ℕ) (goes : Item → Bool) (from to : ℕ) → from ≤ to → (goes (itemAt bytes from) ≡ goes (itemAt bytes to) → ⊥) → from < to

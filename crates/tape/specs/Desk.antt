@@ -1,8 +1,9 @@
 -- The parts of a run that the program keeps apart, and what each of its loops leaves of them. Definitions only.
 use Prim.Native.Nat.{ℕ, _-_, _<_, _≤_}
-use mathlib.Core.Bool.{Bool, true, false, cond}
+use mathlib.Core.Bool.{Bool, true, false, cond, _||_}
 use mathlib.Core.List.{List}
 use mathlib.Core.Path.{_≡_}
+use lib.Dec.{eqb}
 use lib.ListN.{length}
 use Rattle.config.specs.Ledger.{opened}
 use Rattle.config.specs.declared.ledger.Ledger.{Ledger}
@@ -71,78 +72,39 @@ Stands bytes word next item = (itemAt bytes word ≡ item) × (next ≡ wordAfte
 
 -- ---- what each loop goes over
 
+-- whose an item is: 0 nobody's, the tape stops; 1 the clock's; 2 the pacers'; 3 the core's; 4 the peers'; 5 the writers'; 6 the core's and, where a rate
+-- is to be shared out, the writers'
+abbrev pub ownerOf : Item → ℕ
+ownerOf End = 0
+ownerOf Broken = 0
+ownerOf (Advance micros) = 1
+ownerOf (Register c id) = 5
+ownerOf Eagain = 3
+ownerOf (Tos tos) = 3
+ownerOf (Nacks count) = 3
+ownerOf (Rtt peer bits) = 4
+ownerOf Tick = 6
+ownerOf (HandIn i c n) = 2
+ownerOf (Send i) = 2
+ownerOf (SetRate rate) = 6
+
 abbrev pub isAdvance : Item → Bool
-isAdvance (Advance micros) = true
-isAdvance End = false
-isAdvance Broken = false
-isAdvance (Register c id) = false
-isAdvance Eagain = false
-isAdvance (Tos tos) = false
-isAdvance (Nacks count) = false
-isAdvance (Rtt peer bits) = false
-isAdvance Tick = false
-isAdvance (HandIn i c n) = false
-isAdvance (Send i) = false
-isAdvance (SetRate rate) = false
+isAdvance item = eqb (ownerOf item) 1
 
 -- hand-ins and send attempts; each loop goes over advances too
 abbrev pub isPaced : Item → Bool
-isPaced (HandIn i c n) = true
-isPaced (Send i) = true
-isPaced End = false
-isPaced Broken = false
-isPaced (Advance micros) = true
-isPaced (Register c id) = false
-isPaced Eagain = false
-isPaced (Tos tos) = false
-isPaced (Nacks count) = false
-isPaced (Rtt peer bits) = false
-isPaced Tick = false
-isPaced (SetRate rate) = false
+isPaced item = isAdvance item || eqb (ownerOf item) 2
 
 -- signals but samples; a tick and a rate setting end the loop where a rate is to be shared out
 abbrev pub isSignal : Item → Bool
-isSignal Eagain = true
-isSignal (Tos tos) = true
-isSignal (Nacks count) = true
-isSignal End = false
-isSignal Broken = false
-isSignal (Advance micros) = true
-isSignal (Register c id) = false
-isSignal (Rtt peer bits) = false
-isSignal Tick = false
-isSignal (HandIn i c n) = false
-isSignal (Send i) = false
-isSignal (SetRate rate) = false
+isSignal item = isAdvance item || eqb (ownerOf item) 3
 
 abbrev pub isSample : Item → Bool
-isSample (Rtt peer bits) = true
-isSample End = false
-isSample Broken = false
-isSample (Advance micros) = true
-isSample (Register c id) = false
-isSample Eagain = false
-isSample (Tos tos) = false
-isSample (Nacks count) = false
-isSample Tick = false
-isSample (HandIn i c n) = false
-isSample (Send i) = false
-isSample (SetRate rate) = false
+isSample item = isAdvance item || eqb (ownerOf item) 4
 
 -- what leaves a rate to be shared out, where the loop over signals halts at it
 abbrev pub isRated : Item → Bool
-isRated Tick = true
-isRated (SetRate rate) = true
-isRated End = false
-isRated Broken = false
-isRated (Advance micros) = false
-isRated (Register c id) = false
-isRated Eagain = false
-isRated (Tos tos) = false
-isRated (Nacks count) = false
-isRated (Rtt peer bits) = false
-isRated (HandIn i c n) = false
-isRated (Send i) = false
+isRated item = eqb (ownerOf item) 6
 
 -- .. and which: of a rate setting the one given, else the core's
 abbrev pub rateFor : Item → ℕ → ℕ

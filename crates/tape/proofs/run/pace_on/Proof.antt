@@ -3,11 +3,12 @@ use Prim.Native.Nat.{ℕ, _-_}
 use mathlib.Core.List.{List}
 use mathlib.Core.Path.{_≡_, refl, _∙_}
 use native.Mathlib.Omega.{arith}
+use borrow.Author.Tests.{not-true, not-false}
 use lib.ListN.{length}
 use Rattle.station.specs.declared.station.StationConfig.{StationConfig}
 use Rattle.tape.specs.Item.{wordsOf}
 use Rattle.tape.specs.declared.run.Place.{Place}
-use Rattle.tape.proofs.Runs.{Reached, reached-on, since, not-true, not-false}
+use Rattle.tape.proofs.Runs.{Reached, reached-on, since}
 use Rattle.station.specs.declared.roster.Roster.{Roster}
 use Rattle.tape.specs.Desk.{PacedOn, isPaced}
 use Rattle.tape.proofs.run.pace_on.Statement.{statement}

@@ -1,6 +1,6 @@
 use borrow.Author.Needs.{needs}
 use Prim.Native.Nat.{ℕ, _-_}
-use mathlib.Core.Bool.{Bool}
+use mathlib.Core.Bool.{Bool, false≢true}
 use mathlib.Core.List.{List}
 use mathlib.Core.Path.{_≡_, refl, ap, sym, _∙_}
 use native.Mathlib.Omega.{arith}
@@ -15,7 +15,7 @@ use Rattle.tape.specs.Item.{wordsOf, stops}
 use Rattle.tape.specs.Desk.{deskOf, endAt, isPaced, isSignal, isSample, isRated, rateFor}
 use Rattle.tape.specs.declared.run.Place.{Place}
 use Rattle.tape.proofs.Items.{item-inside}
-use Rattle.tape.proofs.Runs.{not-both, stands-at, further-on, apart, paced-item, last-item, halted-still, halted-rated, start-shell}
+use Rattle.tape.proofs.Runs.{stands-at, further-on, apart, paced-item, last-item, halted-still, halted-rated, start-shell}
 use Rattle.tape.proofs.run.play.Statement.{statement}
 use Rattle.tape.proofs.run.play.Tie as tie
 
@@ -102,7 +102,7 @@ any-inflated-requires-2 c κs = search needs
 loop-less-2 : tie.Need-loop-less-2 Inv-loop μ-loop
 unfolding stops
 loop-less-2 c = let l = c .before .before .before .before .before .before .before .before .before .before .before .before .before .before .before .before .before .before .before .before .before .before .before .before .before .before .loop in let paced = c .before .before .before .before .before .before .before .before .before .before .before .before .before .before .before .before .before .before .before .before .before .before .pace-on in let signalled = c .before .before .before .before .before .before .before .before .before .before .before .before .before .before .before .signal-on in let on = c .before .before .before .before .before .sample-on .ensures .0 in let found = sym (c .before .before .before .before .before .before .before .before .before .before .item-at .ensures) ∙ c .before .before .before .before .before .before .before .enum-told .given .1 in
-    omega (arith, paced .ensures .0 .ahead, signalled .ensures .0 .ahead, apart _ isSample _ _ (on .ahead) (λ e. not-both (sym (on .halted refl) ∙ (sym e ∙ ap isSample found))), on .inside (omega (arith, item-inside _ _ (ap stops found))))
+    omega (arith, paced .ensures .0 .ahead, signalled .ensures .0 .ahead, apart _ isSample _ _ (on .ahead) (λ e. false≢true (sym (on .halted refl) ∙ (sym e ∙ ap isSample found))), on .inside (omega (arith, item-inside _ _ (ap stops found))))
 
 loop-again-2 : tie.Need-loop-again-2 Inv-loop μ-loop
 loop-again-2 c = let l = c .before .before .before .before .before .before .before .before .before .before .before .before .before .before .before .before .before .before .before .before .before .before .before .before .before .before .loop in let paced = c .before .before .before .before .before .before .before .before .before .before .before .before .before .before .before .before .before .before .before .before .before .before .pace-on in let signalled = c .before .before .before .before .before .before .before .before .before .before .before .before .before .before .before .signal-on in
@@ -162,7 +162,7 @@ loop-less-4 : tie.Need-loop-less-4 Inv-loop μ-loop
 loop-less-4 c = let l = c .before .before .before .before .before .before .before .before .before .before .before .before .before .before .before .before .before .before .before .before .before .before .loop in let paced = c .before .before .before .before .before .before .before .before .before .before .before .before .before .before .before .before .before .before .pace-on in let signalled = c .before .before .before .before .before .before .before .before .before .before .before .signal-on in
     let at = c .before .before .before .before .before .before .item-at in let going = sym (c .before .before .before .is-last .ensures) ∙ c .before .before .if1 .left in
     let handed = paced-item (at .result) (c .before .before .before .before .match .keys3) going (ap isSignal (at .ensures) ∙ signalled .ensures .0 .halted refl) (sym (c .before .is-rated .ensures) ∙ c .if2 .left) in
-    omega (arith, paced .ensures .0 .ahead, apart _ isPaced _ _ (signalled .ensures .0 .ahead) (λ e. not-both (sym (paced .ensures .0 .halted refl) ∙ (e ∙ (sym (ap isPaced (at .ensures)) ∙ handed)))), item-inside _ _ (sym (ap stops (at .ensures)) ∙ going))
+    omega (arith, paced .ensures .0 .ahead, apart _ isPaced _ _ (signalled .ensures .0 .ahead) (λ e. false≢true (sym (paced .ensures .0 .halted refl) ∙ (e ∙ (sym (ap isPaced (at .ensures)) ∙ handed)))), item-inside _ _ (sym (ap stops (at .ensures)) ∙ going))
 
 loop-again-4 : tie.Need-loop-again-4 Inv-loop μ-loop
 loop-again-4 c = let l = c .before .before .before .before .before .before .before .before .before .before .before .before .before .before .before .before .before .before .before .before .before .before .loop in let paced = c .before .before .before .before .before .before .before .before .before .before .before .before .before .before .before .before .before .before .pace-on in let signalled = c .before .before .before .before .before .before .before .before .before .before .before .signal-on in

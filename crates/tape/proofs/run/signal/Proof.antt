@@ -1,7 +1,8 @@
+use mathlib.Core.Bool.{false≢true}
 use mathlib.Core.Path.{refl, ap, sym, _∙_}
 use Rattle.tape.specs.Desk.{isAdvance, isRated, isSignal}
 use Rattle.tape.specs.Item.{stops}
-use Rattle.tape.proofs.Runs.{stands-at, moved-on, rated-on, halted-on, halted-still, unsignalled-item, unrated-item, not-both}
+use Rattle.tape.proofs.Runs.{stands-at, moved-on, rated-on, halted-on, halted-still, unsignalled-item, unrated-item}
 use borrow.Author.Needs.{needs}
 use Rattle.tape.proofs.run.signal.Statement.{statement}
 use Rattle.tape.proofs.run.signal.Tie as tie
@@ -51,7 +52,7 @@ same-length c = search needs
 returns : tie.Need-returns
 unfolding stops
 returns c = let on = c .before .before .before .before .before .before .before .before .skip-on .ensures in let st = stands-at _ _ _ _ _ (c .before .before .before .before .before .before .before .item-at .ensures) (c .before .before .before .before .before .before .word-after .ensures) (c .before .before .before .before .enum-told .given .1) in let said = c .before .before .eagain .ensures in
-    (moved-on _ isSignal _ _ _ _ _ _ (on .0 .ahead) st refl (said .0) (said .1 .0), (λ e g t a words pool ei. said .1 .1 _ _ st g t a words pool ei ∙ on .1 _ _ _ g t a words pool, λ e. absurd (not-both (sym e ∙ said .1 .0))))
+    (moved-on _ isSignal _ _ _ _ _ _ (on .0 .ahead) st refl (said .0) (said .1 .0), (λ e g t a words pool ei. said .1 .1 _ _ st g t a words pool ei ∙ on .1 _ _ _ g t a words pool, λ e. absurd (false≢true (sym e ∙ said .1 .0))))
 
 same-length-2 : tie.Need-same-length-2
 same-length-2 c = search needs
@@ -59,7 +60,7 @@ same-length-2 c = search needs
 returns-2 : tie.Need-returns-2
 unfolding stops
 returns-2 c = let on = c .before .before .before .before .before .before .before .before .before .skip-on .ensures in let st = stands-at _ _ _ _ _ (c .before .before .before .before .before .before .before .before .item-at .ensures) (c .before .before .before .before .before .before .before .word-after .ensures) (c .before .before .before .before .before .found .given .1) in let said = c .before .before .nacks .ensures in
-    (moved-on _ isSignal _ _ _ _ _ _ (on .0 .ahead) st refl (said .0) (said .1 .0), (λ e g t a words pool ei. said .1 .1 _ _ st g t a words pool ei ∙ on .1 _ _ _ g t a words pool, λ e. absurd (not-both (sym e ∙ said .1 .0))))
+    (moved-on _ isSignal _ _ _ _ _ _ (on .0 .ahead) st refl (said .0) (said .1 .0), (λ e g t a words pool ei. said .1 .1 _ _ st g t a words pool ei ∙ on .1 _ _ _ g t a words pool, λ e. absurd (false≢true (sym e ∙ said .1 .0))))
 
 same-length-3 : tie.Need-same-length-3
 same-length-3 c = search needs
@@ -67,7 +68,7 @@ same-length-3 c = search needs
 returns-3 : tie.Need-returns-3
 unfolding stops
 returns-3 c = let on = c .before .before .before .before .before .before .before .before .before .skip-on .ensures in let st = stands-at _ _ _ _ _ (c .before .before .before .before .before .before .before .before .item-at .ensures) (c .before .before .before .before .before .before .before .word-after .ensures) (c .before .before .before .before .before .found2 .given .1) in let said = c .before .before .tos .ensures in
-    (moved-on _ isSignal _ _ _ _ _ _ (on .0 .ahead) st refl (said .0) (said .1 .0), (λ e g t a words pool ei. said .1 .1 _ _ st g t a words pool ei ∙ on .1 _ _ _ g t a words pool, λ e. absurd (not-both (sym e ∙ said .1 .0))))
+    (moved-on _ isSignal _ _ _ _ _ _ (on .0 .ahead) st refl (said .0) (said .1 .0), (λ e g t a words pool ei. said .1 .1 _ _ st g t a words pool ei ∙ on .1 _ _ _ g t a words pool, λ e. absurd (false≢true (sym e ∙ said .1 .0))))
 
 same-length-4 : tie.Need-same-length-4
 same-length-4 c = search needs
@@ -87,7 +88,7 @@ returns-5 c = let on = c .before .before .before .before .before .before .before
 
 returns-6 : tie.Need-returns-6
 returns-6 c = let on = c .before .before .before .skip-on .ensures in let at = c .before .before .item-at in
-    (halted-on _ isSignal _ _ (on .0) (sym (ap isSignal (at .ensures)) ∙ unsignalled-item (at .result) (c .match .keys6) (ap isAdvance (at .ensures) ∙ on .0 .halted refl)), (λ e. absurd (not-both e), λ e g t a words pool ei. halted-still _ _ _ _ t a words pool (sym (ap isRated (at .ensures)) ∙ unrated-item (at .result) (c .match .keys6)) ∙ on .1 _ _ _ g t a words pool))
+    (halted-on _ isSignal _ _ (on .0) (sym (ap isSignal (at .ensures)) ∙ unsignalled-item (at .result) (c .match .keys6) (ap isAdvance (at .ensures) ∙ on .0 .halted refl)), (λ e. absurd (false≢true e), λ e g t a words pool ei. halted-still _ _ _ _ t a words pool (sym (ap isRated (at .ensures)) ∙ unrated-item (at .result) (c .match .keys6)) ∙ on .1 _ _ _ g t a words pool))
 
 pub signal-spec : {M : Type 1} → statement M
 signal-spec =
