@@ -1,66 +1,61 @@
--- The absolute value by tests: below zero, zero of either sign, and the rest. The format is a parameter. Assumes nothing.
-use Prim.Native.Nat.{ℕ, zero, suc, _*_, _+_, _^_, _<_, _≤_}
-use mathlib.Core.Bool.{Bool, true, false, _&&_, false≢true}
-use mathlib.Core.Path.{_≡_, refl, sym, ap, _∙_}
-use native.Mathlib.Nat.{mul-one, one-mul, pow-succ', mul-pos, zero-lt-suc}
+-- The absolute value is what the pattern without its sign bit means. The format is a parameter. Assumes nothing.
+use Prim.Native.Nat.{ℕ, zero, suc, _+_, _*_, _%_, _<_}
+use mathlib.Core.Bool.{Bool, true, false, not, true≢false}
+use mathlib.Core.Path.{_≡_, refl, sym, ap, subst, _∙_}
+use native.Mathlib.Nat.{one-mul, mod-eq-of-lt}
 use native.Mathlib.Omega.{arith}
-use borrow.Author.Tests.{ltb-true, ltb-false, eqb-true, eq-eqb}
-use lib.Dec.{T, ltb, eqb, eqb→eq}
-use lib.Ieee.{Float, Format, nan, inf, fin, up, down, lt, eq, neg, fits}
-use lib.Ieee.Fits.{up-pos}
-use lib.IntN.{ℤ, pos, negsuc}
+use lib.Arith.{digits-mod}
+use lib.Dec.{T}
+use lib.Ieee.{Float, Format, nan, inf, fin, hid, ones, top, isNan, fits, ofBits, toBits, nanBits}
+use lib.Ieee.Bits.{ofBits-toBits, toBits-lt, nanBits-is}
+use lib.IntN.{ℤ}
 use Rattle.numeric.specs.Float.{absOf}
 
-abbrev pub nought : Float
-nought = fin false 0 (pos 0)
+-- what is below the sign bit t, with it and without it
+signed : (t n : ℕ) → t + n < 2 * t → (t + n) % t ≡ 0 + n
+signed t n h = ap (λ (k : ℕ). (k + n) % t) (sym (one-mul t)) ∙ digits-mod 1 (omega (arith, h)) ∙ omega arith
 
-no-below : (n d : ℕ) → ltb (n * 1) (0 * d) ≡ true → ⊥
-no-below n d h = let k = ltb-true (n * 1) (0 * d) h in omega arith
+unsigned : (t n : ℕ) → t + n < 2 * t → (0 + n) % t ≡ 0 + n
+unsigned t n h = mod-eq-of-lt (omega (arith, h))
 
-pub negative : (x : Float) → lt x nought ≡ true → neg x ≡ absOf x
-unfolding lt neg
-negative nan h = absurd (false≢true h)
-negative (inf true) h = refl
-negative (inf false) h = absurd (false≢true h)
-negative (fin true m e) h = refl
-negative (fin false m e) h = absurd (no-below (m * up e) (down e) h)
+signed-sum : (t a b : ℕ) → t + a + b < 2 * t → (t + a + b) % t ≡ 0 + a + b
+signed-sum t a b h =
+    let one : t + a + b ≡ t + (a + b) = omega arith in let none : 0 + (a + b) ≡ 0 + a + b = omega arith in
+    ap (λ (k : ℕ). k % t) one ∙ signed t (a + b) (omega (arith, h)) ∙ none
 
--- a zero that fits is written in one way
-flat : (e : ℤ) → up e * down e ≡ 1 → e ≡ pos 0
-flat (pos zero) h = refl
-flat (pos (suc k)) h = absurd (even (2 ^ k) (sym (pow-succ' 2 k) ∙ sym (mul-one (2 ^ suc k)) ∙ h))
+-- a sign says nothing of whether a number fits
+any-sign : (f : Format) (s s′ : Bool) (m : ℕ) (e : ℤ) → T (fits f (fin s m e)) → T (fits f (fin s′ m e))
+unfolding fits
+any-sign f s s′ zero e F = F
+any-sign f s s′ (suc m) e F = F
+
+-- the pattern without its sign bit
+cleared : (f : Format) (x : Float) → T (fits f x) → isNan x ≡ false → toBits f x % top f ≡ toBits f (absOf x)
+unfolding toBits fits isNan
+cleared f nan F h = absurd (true≢false h)
+cleared f (inf true) F h = signed (top f) (ones f * hid f) (toBits-lt f (inf true) tt)
+cleared f (inf false) F h = unsigned (top f) (ones f * hid f) (toBits-lt f (inf true) tt)
+cleared f (fin true m e) F h = signed-sum (top f) _ _ (toBits-lt f (fin true m e) F)
+cleared f (fin false m e) F h = mod-eq-of-lt (below (top f) _ _ (toBits-lt f (fin true m e) (any-sign f false true m e F)))
   where
-    even : (n : ℕ) → 2 * n ≡ 1 → ⊥
-    even n h = omega arith
-flat (negsuc k) h = absurd (even (2 ^ k) (sym (pow-succ' 2 k) ∙ sym (one-mul (2 ^ suc k)) ∙ h))
+    below : (t a b : ℕ) → t + a + b < 2 * t → 0 + a + b < t
+    below t a b h = omega (arith, h)
+
+abs-fits : (f : Format) (x : Float) → T (fits f x) → T (fits f (absOf x))
+unfolding fits
+abs-fits f nan F = tt
+abs-fits f (inf s) F = tt
+abs-fits f (fin s m e) F = any-sign f s false m e F
+
+pub abs-bits : (f : Format) (x : Float) → T (fits f x) → isNan x ≡ false → ofBits f (toBits f x % top f) ≡ absOf x
+abs-bits f x F h = ap (ofBits f) (cleared f x F h) ∙ ofBits-toBits f (absOf x) (abs-fits f x F)
+
+-- .. which is no NaN's
+pub abs-pattern : (f : Format) (x : Float) → T (fits f x) → isNan x ≡ false → T (not (nanBits f (toBits f x % top f)))
+unfolding isNan
+abs-pattern f x F h = subst (λ (b : Bool). T (not b)) (sym (nanBits-is f _ ∙ ap isNan (abs-bits f x F h) ∙ same x ∙ h)) tt
   where
-    even : (n : ℕ) → 2 * n ≡ 1 → ⊥
-    even n h = omega arith
-
-and-true : (a b : Bool) → (a && b) ≡ true → a ≡ true
-and-true true b h = refl
-and-true false b h = h
-
-pub zeros : (f : Format) (x : Float) → T (fits f x) → eq x nought ≡ true → nought ≡ absOf x
-unfolding eq fits
-zeros f nan F h = absurd (false≢true h)
-zeros f (inf s) F h = absurd (false≢true h)
-zeros f (fin s zero e) F h = ap (λ (z : ℤ). fin false 0 z) (sym (flat e (eqb→eq (up e * down e) 1 F)))
-zeros f (fin s (suc m) e) F h = absurd (some (suc m * up e) (down e) (mul-pos (zero-lt-suc m) (up-pos e)) (eqb-true (suc m * up e * 1) (0 * down e) (and-true (eqb (suc m * up e * 1) (0 * down e)) _ h)))
-  where
-    some : (n d : ℕ) → 0 < n → n * 1 ≡ 0 * d → ⊥
-    some n d h k = omega arith
-
-pub others : (x : Float) → lt x nought ≡ false → eq x nought ≡ false → x ≡ absOf x
-unfolding lt eq
-others nan h k = refl
-others (inf true) h k = absurd (false≢true (sym h))
-others (inf false) h k = refl
-others (fin false m e) h k = refl
-others (fin true m e) h k = absurd (false≢true (sym k ∙ simp (eq-eqb (m * up e * 1) (0 * down e) (none (m * up e) (down e) (ltb-false 0 (m * up e * 1 + 0 * down e) h)), eq-eqb (m * up e * 1) 0 (none' (m * up e) (down e) (ltb-false 0 (m * up e * 1 + 0 * down e) h)))))
-  where
-    none : (n d : ℕ) → n * 1 + 0 * d ≤ 0 → n * 1 ≡ 0 * d
-    none n d h = omega arith
-
-    none' : (n d : ℕ) → n * 1 + 0 * d ≤ 0 → n * 1 ≡ 0
-    none' n d h = omega arith
+    same : (x : Float) → isNan (absOf x) ≡ isNan x
+    same nan = refl
+    same (inf s) = refl
+    same (fin s m e) = refl

@@ -145,17 +145,14 @@ pub fn clamp_f32(x: f32, low: f32, high: f32) -> f32
     }
 }
 
-// The size of a difference, as Rust's `f32::abs`: the sign goes, that of -0.0 too.
+// The size of a difference, as Rust's `f32::abs`: the sign bit is cleared, that of -0.0 too. A NaN stays one.
 pub fn abs_f32(x: f32) -> f32
     ensures { λ r. ⌜ r ≡ absOf x ⌝ }
 {
-    if x < 0.0 {
-        -x
-    } else if x == 0.0 {
-        0.0
-    } else {
-        x
+    if x == x {
+        return f32::from_bits(f32::to_bits(x) % 0x8000_0000);
     }
+    x
 }
 
 // Whether a setting is a number: neither a NaN nor an infinity. Rust's `f32::is_finite`.

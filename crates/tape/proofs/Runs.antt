@@ -342,7 +342,7 @@ told-ends :
 unfolding rateTold sharedBy
 told-ends bytes ls c d t a words pool item next rate x left h es ep ex ea et =
     said-ending bytes ls (d .place .at) (playerAt c d t a words pool) (d .place .word) item
-    (lineOf (d .place .word) 0 (updates (writersOf (sharedFor c d a rate .allocator .table)))) _ next (h .0) es
+    (lineOf (d .place .word) 0 (updates (writersOf (sharedFor c (d .place) (d .roster) a rate .allocator .table)))) _ next (h .0) es
     (ep ∙ (ap (rated (playerAt c d t a words pool) (d .place .word)) (sym ex)
     ∙ ap (λ (y : CoreLeft). rated (playerAt c d t a words pool) (d .place .word) (sharedBy (stationAt c d t a words) y (d .place .clock) rate)) (ap₂ (leftWith left) ea et))) (h .1)
 

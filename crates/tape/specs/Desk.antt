@@ -183,24 +183,27 @@ RegisteredOn bytes c ls p g a ls′ p′ g′ a′ =
 
 -- ---- a rate shared out
 
-abbrev pub sharedFor : StationConfig → Desk → BudgetAllocator → ℕ → SharedOut
-sharedFor c d a rate = sharedOut c a (d .roster) (d .place .clock) rate
+abbrev pub sharedFor : StationConfig → Place → Roster → BudgetAllocator → ℕ → SharedOut
+sharedFor c p g a rate = sharedOut c a g (p .clock) rate
 
 -- the line of the updates
-abbrev pub updatesLine : Desk → SharedOut → List ℕ
-updatesLine d x = lineText (d .place .word) 0 (updatesText (writersOf (x .allocator .table)))
+abbrev pub updatesLine : Place → SharedOut → List ℕ
+updatesLine p x = lineText (p .word) 0 (updatesText (writersOf (x .allocator .table)))
 
-abbrev pub sharedLines : StationConfig → Desk → BudgetAllocator → ℕ → List ℕ → List ℕ
-sharedLines c d a rate ls = written ls (d .place .at) (updatesLine d (sharedFor c d a rate))
+abbrev pub sharedLines : StationConfig → Place → Roster → BudgetAllocator → ℕ → List ℕ → List ℕ
+sharedLines c p g a rate ls = written ls (p .at) (updatesLine p (sharedFor c p g a rate))
 
-abbrev pub sharedPlace : StationConfig → Desk → ℕ → BudgetAllocator → ℕ → List ℕ → Place
-sharedPlace c d next a rate ls =
-    placeOf next (ended (length ls) (d .place .at) (length (updatesLine d (sharedFor c d a rate)))) (d .place .clock) (d .place .ledger)
+abbrev pub sharedPlace : StationConfig → Place → Roster → ℕ → BudgetAllocator → ℕ → List ℕ → Place
+sharedPlace c p g next a rate ls =
+    placeOf next (ended (length ls) (p .at) (length (updatesLine p (sharedFor c p g a rate)))) (p .clock) (p .ledger)
 
--- the end of the run from a desk whose item is done but for the sharing out of its rate
+-- the end of the run from a place whose item is done but for the sharing out of its rate
+abbrev pub sharedAt : List ℕ → StationConfig → List ℕ → Place → ControllerCore → Roster → ℕ → ℕ → PeerRttTracker → BudgetAllocator → List ℕ → List ℕ → Ending
+sharedAt bytes c ls p k g next rate t a words pool =
+    endAt bytes c (sharedLines c p g a rate ls) (deskOf (sharedPlace c p g next a rate ls) k (sharedFor c p g a rate .roster)) t (sharedFor c p g a rate .allocator) words pool
+
 abbrev pub sharedEnd : List ℕ → StationConfig → List ℕ → Desk → ℕ → ℕ → PeerRttTracker → BudgetAllocator → List ℕ → List ℕ → Ending
-sharedEnd bytes c ls d next rate t a words pool =
-    endAt bytes c (sharedLines c d a rate ls) (deskOf (sharedPlace c d next a rate ls) (d .core) (sharedFor c d a rate .roster)) t (sharedFor c d a rate .allocator) words pool
+sharedEnd bytes c ls d next rate t a words pool = sharedAt bytes c ls (d .place) (d .core) (d .roster) next rate t a words pool
 
 -- .. from where the loop over signals halts: at an item whose rate is to be shared out, or at one that is none of its own
 abbrev pub haltedAt : Item → List ℕ → StationConfig → List ℕ → Desk → PeerRttTracker → BudgetAllocator → List ℕ → List ℕ → Ending

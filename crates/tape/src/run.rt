@@ -74,11 +74,10 @@ pub(crate) struct Signalled {
     pub(crate) moved: bool,
 }
 
-// What a peer's sample leaves; `moved`: there was one.
+// What samples one after the other leave.
 pub(crate) struct Sampled {
     pub(crate) place: Place,
     pub(crate) tracker: PeerRttTracker,
-    pub(crate) moved: bool,
 }
 
 // What a sample leaves of the row that it goes to; `moved`: there was one.
@@ -88,17 +87,9 @@ pub(crate) struct RowSampled {
     pub(crate) moved: bool,
 }
 
-// What a register leaves.
-pub(crate) struct Registered {
+// What a register, or a rate that is shared out, leaves of the writers.
+pub(crate) struct WritersLeft {
     pub(crate) place: Place,
-    pub(crate) roster: Roster,
-    pub(crate) allocator: BudgetAllocator,
-}
-
-// What a rate that is shared out leaves.
-pub(crate) struct Rated {
-    pub(crate) place: Place,
-    pub(crate) core: ControllerCore,
     pub(crate) roster: Roster,
     pub(crate) allocator: BudgetAllocator,
 }
@@ -627,11 +618,7 @@ fn sample_on(
         tracker.peers[seat] = sampled;
         tracker.count = left.count;
         if !moved {
-            return Sampled {
-                place,
-                tracker,
-                moved,
-            };
+            return Sampled { place, tracker };
         }
     }
 }
@@ -646,7 +633,7 @@ fn register(
     lines: &mut [u8],
     class: Priority,
     id: u32,
-) -> Registered
+) -> WritersLeft
     ensures { λ r. ⌜ r .place .word ≡ next ⌝ }
     ensures { λ r. ⌜ ((bytes : List ℕ) → Stands bytes (place .word) next (Register class id) → RegisteredOn bytes config (now (lines .entry)) place roster allocator (now (lines .exit)) (r .place) (r .roster) (r .allocator)) ⌝ }
 {
@@ -662,7 +649,7 @@ fn register(
     let at = text::put_line(lines, place.at, place.word, left.answer, Fields::Nothing);
     let writers = left.roster;
     let after = left.allocator;
-    Registered {
+    WritersLeft {
         place: behind(place, next, at, left.ledger),
         roster: writers,
         allocator: after,
@@ -672,27 +659,24 @@ fn register(
 // A rate shared out, and the line of the updates. It is called from one place, and so compiled into the loop that keeps the tables.
 fn share(
     place: Place,
-    core: ControllerCore,
     roster: Roster,
     allocator: BudgetAllocator,
     next: usize,
     config: StationConfig,
     rate_bps: u32,
     lines: &mut [u8],
-) -> Rated
-    ensures { λ r. ⌜ r .place ≡ sharedPlace config (deskOf place core roster) next allocator «rate_bps» (now (lines .entry)) ⌝ }
-    ensures { λ r. ⌜ r .core ≡ core ⌝ }
-    ensures { λ r. ⌜ r .roster ≡ sharedFor config (deskOf place core roster) allocator «rate_bps» .roster ⌝ }
-    ensures { λ r. ⌜ r .allocator ≡ sharedFor config (deskOf place core roster) allocator «rate_bps» .allocator ⌝ }
-    ensures { λ _. ⌜ now (lines .exit) ≡ sharedLines config (deskOf place core roster) allocator «rate_bps» (now (lines .entry)) ⌝ }
+) -> WritersLeft
+    ensures { λ r. ⌜ r .place ≡ sharedPlace config place roster next allocator «rate_bps» (now (lines .entry)) ⌝ }
+    ensures { λ r. ⌜ r .roster ≡ sharedFor config place roster allocator «rate_bps» .roster ⌝ }
+    ensures { λ r. ⌜ r .allocator ≡ sharedFor config place roster allocator «rate_bps» .allocator ⌝ }
+    ensures { λ _. ⌜ now (lines .exit) ≡ sharedLines config place roster allocator «rate_bps» (now (lines .entry)) ⌝ }
 {
     let shared = parts::share_out(config, allocator, roster, place.clock, rate_bps);
     let after = shared.allocator;
     let writers = shared.roster;
     let at = text::put_updates(lines, place.at, place.word, after.table());
-    Rated {
+    WritersLeft {
         place: behind(place, next, at, place.ledger),
-        core,
         roster: writers,
         allocator: after,
     }
@@ -795,7 +779,7 @@ fn play(
                 }
                 if is_rated(found) {
                     let rate = rate_of(found, core.rate());
-                    let after = share(place, core, roster, allocator, next, config, rate, lines);
+                    let after = share(place, roster, allocator, next, config, rate, lines);
                     place = after.place;
                     roster = after.roster;
                     allocator = after.allocator;

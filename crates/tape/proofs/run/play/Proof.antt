@@ -152,10 +152,10 @@ loop-again-3 : tie.Need-loop-again-3 Inv-loop μ-loop
 loop-again-3 c = let l = c .before .before .before .before .before .before .before .before .before .before .before .before .before .before .before .before .before .before .before .before .before .before .before .before .before .before .before .before .before .before .before .loop in let paced = c .before .before .before .before .before .before .before .before .before .before .before .before .before .before .before .before .before .before .before .before .before .before .before .before .before .before .before .pace-on in let signalled = c .before .before .before .before .before .before .before .before .before .before .before .before .before .before .before .before .before .before .before .before .signal-on in let at = c .before .before .before .before .before .before .before .before .before .before .before .before .before .before .before .item-at in let st = stands-at _ _ _ _ (at .result) (at .ensures) (c .before .before .before .before .before .before .before .before .before .before .before .before .before .before .word-after .ensures) refl in let shared = c .before .before .before .before .before .share .ensures in
     let rate = c .before .before .before .before .before .before .before .rate-of .ensures ∙ ap (λ (n : ℕ). rateFor (at .result) n) (c .before .before .before .before .before .before .before .before .rate .ensures) in
     record {
-      same-lines = c .before .before .before .before .before .share .kept .1 .1 .1 .1 .1 .1 .1 .0 ∙ (signalled .kept .1 .1 .1 .1 .1 .0 ∙ (paced .kept .1 .1 .1 .1 .1 .1 .0 ∙ l .inv .same-lines));
+      same-lines = c .before .before .before .before .before .share .kept .1 .1 .1 .1 .1 .1 .0 ∙ (signalled .kept .1 .1 .1 .1 .1 .0 ∙ (paced .kept .1 .1 .1 .1 .1 .1 .0 ∙ l .inv .same-lines));
       same-pool = paced .kept .1 .1 .1 .1 .1 .0 ∙ l .inv .same-pool;
       told = l .inv .told;
-      kept = rw (shared .0, shared .1 .1 .0, shared .1 .1 .1 .0, shared .1 .1 .1 .1) (halted-rated _ _ _ _ _ _ _ _ _ _ _ st (sym (c .before .before .before .before .before .before .before .before .before .before .is-rated .ensures) ∙ c .before .before .before .before .before .before .before .before .before .if2 .taken) rate ∙ (signalled .ensures .1 _ (l .tracker) (l .allocator) _ _ (l .inv .told) ∙ (paced .ensures .1 (l .core) (l .tracker) (l .allocator) ∙ l .inv .kept)));
+      kept = rw (shared .0, shared .1 .0, shared .1 .1 .0, shared .1 .1 .1) (halted-rated _ _ _ _ _ _ _ _ _ _ _ st (sym (c .before .before .before .before .before .before .before .before .before .before .is-rated .ensures) ∙ c .before .before .before .before .before .before .before .before .before .if2 .taken) rate ∙ (signalled .ensures .1 _ (l .tracker) (l .allocator) _ _ (l .inv .told) ∙ (paced .ensures .1 (l .core) (l .tracker) (l .allocator) ∙ l .inv .kept)));
     }
 
 loop-less-4 : tie.Need-loop-less-4 Inv-loop μ-loop

@@ -19,7 +19,7 @@ same-length : tie.Need-same-length
 same-length c = search needs
 
 returns : tie.Need-returns
-returns c = rw (c .behind .ensures, c .before .before .before .put-updates .ensures .0, c .before .before .before .put-updates .ensures .1, c .before .before .before .before .table .ensures, c .before .before .before .before .before .before .before .before .share-out .ensures) (refl, (refl, (refl, (refl, refl))))
+returns c = rw (c .behind .ensures, c .before .before .before .put-updates .ensures .0, c .before .before .before .put-updates .ensures .1, c .before .before .before .before .table .ensures, c .before .before .before .before .before .before .before .before .share-out .ensures) (refl, (refl, (refl, refl)))
 
 pub share-spec : {M : Type 1} → statement M
 share-spec =
