@@ -125,7 +125,8 @@ unfoldable pub fullFor : PeerRttTracker → ℕ → Bool
 fullFor t id =
     cond (ltb (placeOf (t .ids) (t .count) id) (knownOf (t .count))) false (leb 64 (knownOf (t .count)))
 
--- ---- the same on one row of the table
+-- ---- the same on one row of the table, for a loop that keeps the table and hands on a row. Nothing new: on the row at `seatOf` a sample comes to
+-- `trackerUpdated` and `fullFor` (`row-like`, proofs/Peers.antt)
 
 abbrev pub rowOf : ℕ → RttEstimator → ℕ → Float → PeerRow
 rowOf id e count x = record { id = id; estimator = e; count = count; «default_ms» = x }
@@ -143,7 +144,7 @@ withRow t k r = trackerOf (set (t .ids) k (r .id)) (set (t .peers) k (r .estimat
 abbrev pub rowWith : PeerRow → Bool → RowEntered
 rowWith r full = record { row = r; full = full }
 
--- a new peer's first, a known one's next, or one that is passed by
+-- row k after a peer's sample: behind the last row the peer is new, in its own row it has one sample more, and another's row stays: the table is full
 unfoldable pub rowEntered : PeerRow → ℕ → ℕ → ℕ → Float → RowEntered
 rowEntered r k time id x =
     cond (leb (knownOf (r .count)) k)
