@@ -1,5 +1,5 @@
 -- Laws of rows: a row is read, one is put in or taken out, all are mapped, place by place, and a writer's is found. Assumes nothing.
-use Prim.Native.Nat.{ℕ, zero, suc, _≤_, _<_}
+use Prim.Native.Nat.{ℕ, zero, suc, _≤_, _<_, min}
 use mathlib.Core.Bool.{true, false}
 use mathlib.Core.List.{List, [], _∷_, _++_, map}
 use mathlib.Core.Path.{_≡_, refl, ap}
@@ -41,20 +41,15 @@ carry-back [] k c d lt = absurd (omega arith)
 carry-back (x ∷ xs) zero c d lt = refl
 carry-back (x ∷ xs) (suc k) c d lt = ap (λ (r : List _). x ∷ r) (carry-back xs k c d (omega arith))
 
--- without the carried element the rows are left
-pub lacking-carried : {A : Type 0} (l : List A) (k : ℕ) (c : A) → k ≤ length l → lacking (take k l ++ (c ∷ drop k l)) k ≡ l
+-- without the carried element the rows are left, also where it lies after them all
+pub lacking-carried : {A : Type 0} (l : List A) (k : ℕ) (c : A) (m : ℕ) → m ≡ min k (length l) → lacking (take k l ++ (c ∷ drop k l)) m ≡ l
 unfolding lacking
-lacking-carried l zero c le = refl
-lacking-carried [] (suc k) c le = absurd (omega arith)
-lacking-carried (x ∷ xs) (suc k) c le = ap (λ (r : List _). x ∷ r) (lacking-carried xs k c (omega arith))
-
--- also where it lies after them all
-pub lacking-last : {A : Type 0} (l : List A) (k : ℕ) (c : A) → length l ≤ k → lacking (take k l ++ (c ∷ drop k l)) (length l) ≡ l
-unfolding lacking
-lacking-last [] zero c le = refl
-lacking-last [] (suc k) c le = refl
-lacking-last (x ∷ xs) zero c le = absurd (omega arith)
-lacking-last (x ∷ xs) (suc k) c le = ap (λ (r : List _). x ∷ r) (lacking-last xs k c (omega arith))
+lacking-carried l zero c zero e = refl
+lacking-carried l zero c (suc m) e = absurd (omega (arith, e))
+lacking-carried [] (suc k) c zero e = refl
+lacking-carried [] (suc k) c (suc m) e = absurd (omega (arith, e))
+lacking-carried (x ∷ xs) (suc k) c zero e = absurd (omega (arith, e))
+lacking-carried (x ∷ xs) (suc k) c (suc m) e = ap (λ (r : List _). x ∷ r) (lacking-carried xs k c m (omega (arith, e)))
 
 -- all rows before row k are mapped, and then row k
 pub mapped-step : {A : Type 0} (f : A → A) (l : List A) (k : ℕ) (d : A) → k < length l →

@@ -1,6 +1,6 @@
 -- The list of the writers: what registering, unregistering and reallocating do to it, and that it is by class and then by id, no id twice,
 -- after every list of calls. Assumes nothing.
-use Prim.Native.Nat.{ℕ, zero, suc, _+_, _-_, _≤_, _<_, min}
+use Prim.Native.Nat.{ℕ, zero, suc, _+_, _-_, _≤_, _<_, min, max}
 use mathlib.Core.Bool.{Bool, true, false, cond, false≢true}
 use mathlib.Core.List.{List, [], _∷_, _++_, map, List·Memᴰ, List·Memᴰ·head, List·Memᴰ·tail, List·Memᴰ·not-nil, List·Memᴰ·cases-cons}
 use mathlib.Core.Logic.{_≢_, ⊎-elim}
@@ -271,14 +271,14 @@ module _ (t : WriterTable) (size : length (t .rows) ≡ 64) where
       let m : takenOf (taken + 1) ≡ suc taken = omega arith in
       rw (lt-ltb taken 64 room)
       (ap (λ (i : ℕ). take i (withRow t (placeFor t w) w .rows)) m
-      ∙ take-lacking (putIn (placeFor t w) w (t .rows)) (suc taken) 64 (omega arith)
+      ∙ take-lacking (putIn (placeFor t w) w (t .rows)) (suc taken) (min (max (placeFor t w) (taken + 1)) 64) (omega (arith, room))
       ∙ rows-inserted w (t .rows) taken (omega arith))
 
   size-entered : (w : WriterInfo) → length (entered t w .rows) ≡ 64
   unfolding entered withRow
   size-entered w =
       by-test (λ (u : WriterTable). length (u .rows) ≡ 64) (ltb taken 64)
-      (λ e. length-lacking (putIn (placeFor t w) w (t .rows)) 64 64 (length-put-in (t .rows) (placeFor t w) w ∙ ap suc size) (omega arith))
+      (λ e. length-lacking (putIn (placeFor t w) w (t .rows)) 64 (min (max (placeFor t w) (taken + 1)) 64) (length-put-in (t .rows) (placeFor t w) w ∙ ap suc size) (omega arith))
       (λ e. size)
 
 fits-without : (t : WriterTable) (id : ℕ) → t .count ≤ 64 → without t id .count ≤ 64

@@ -85,9 +85,10 @@ lacking [] k = []
 lacking (x ∷ xs) zero = xs
 lacking (x ∷ xs) (suc k) = x ∷ lacking xs k
 
--- the writer takes row k, which moves on with those after it; the last of the 64 falls off
+-- the writer takes row k, which moves on with those after it, up to the first that is free, which is given up; of 64 taken the last is
 unfoldable pub withRow : WriterTable → ℕ → WriterInfo → WriterTable
-withRow t k w = tableOf (lacking (take k (t .rows) ++ (w ∷ drop k (t .rows))) 64) (t .count)
+withRow t k w =
+    tableOf (lacking (take k (t .rows) ++ (w ∷ drop k (t .rows))) (min (max k (takenOf (t .count) + 1)) 64)) (t .count)
 
 -- row k is given up, those after it move up, and a blank row comes last
 unfoldable pub withoutRow : WriterTable → ℕ → WriterTable

@@ -164,13 +164,14 @@ impl WriterTable {
         place
     }
 
-    // A writer takes a row; that row and those after it move on by one, and the last falls off.
+    // A writer takes a row; that row and those after it move on by one, up to the first free one.
     fn put_row(mut self, place: usize, writer: WriterInfo) -> WriterTable
         ensures { λ r. ⌜ r ≡ withRow self place writer ⌝ }
     {
+        let moved = taken(taken(self.count) as u16 + 1);
         let mut carried = writer;
         let mut k = place;
-        while k < MOST_WRITERS {
+        while k < moved {
             let next = self.rows[k];
             self.rows[k] = carried;
             carried = next;

@@ -86,13 +86,13 @@ fn check_pacer(answer: u8, count: u8, i: u8) -> u8
     refusal::ACCEPTED
 }
 
-// A hand-in to pacer i of so many registered.
+// A hand-in to pacer i of so many registered. The words are a station's STATION_WORDS; of fewer, those that are missing read as 0 and take nothing.
 pub fn hand_in(
     ledger: Ledger,
     config: PacerConfig,
     count: u8,
     core: PacerCore,
-    words: &mut [u64; STATION_WORDS],
+    words: &mut [u64],
     pool: &mut [u8],
     time: u64,
     i: u8,
@@ -134,7 +134,7 @@ pub fn send(
     config: PacerConfig,
     count: u8,
     core: PacerCore,
-    words: &mut [u64; STATION_WORDS],
+    words: &mut [u64],
     pool_length: usize,
     time: u64,
     i: u8,

@@ -2,9 +2,10 @@
 // call on the parts that it touches (parts.rt). What each does is defined in specs/Station.antt.
 ghost use mathlib.Core.Path.{_≡_};
 ghost use lib.ListN.{length};
-ghost use Rattle.pacing.specs.WriterPacer.{metricsIn, sentBytes};
+ghost use Rattle.config.specs.Refusal.{answerOf};
+ghost use Rattle.pacing.specs.WriterPacer.{handedBy, wordsHandedBy, poolHandedBy, sentBy, wordsSentBy, metricsIn, sentBytes};
 ghost use Rattle.station.specs.Station.{stationConfigOf, newStation, zeroStation, madeStation, resumedStation, registeredStation, eagainStation, nacksStation, tosStation, rttStation, tickedStation, ratedStation, handedStation, poolHanded, sentStation};
-ghost use Rattle.station.specs.Parts.{coreLeftBy, sharedBy};
+ghost use Rattle.station.specs.Parts.{handInChecksOn, sendChecksOn, coreLeftBy, sharedBy};
 use crate::parts;
 use crate::parts::CoreLeft;
 use crate::parts::STATION_WORDS;
@@ -16,8 +17,11 @@ use control::controller::CongestionController;
 use control::controller::ControllerConfig;
 use pacing::coalescing::InstanceKey;
 use pacing::writer_pacer;
+use pacing::writer_pacer::Handed;
 use pacing::writer_pacer::PacerConfig;
+use pacing::writer_pacer::PacerCore;
 use pacing::writer_pacer::SendAction;
+use pacing::writer_pacer::SendTried;
 use pacing::writer_pacer::WriterPacerMetrics;
 
 // What the settings say to the controller and to the pacers: held once, and read by every step.
@@ -94,6 +98,56 @@ fn zero() -> Station
         pacer: PacerConfig::zero(),
     };
     made(config, 0)
+}
+
+// A hand-in on a station's own words.
+fn hand_in_words(
+    ledger: Ledger,
+    config: PacerConfig,
+    count: u8,
+    core: PacerCore,
+    words: &mut [u64; STATION_WORDS],
+    pool: &mut [u8],
+    time: u64,
+    i: u8,
+    class: Priority,
+    key: InstanceKey,
+    sample: &[u8],
+) -> Handed
+    ensures { λ r. ⌜ r ≡ handedBy (answerOf (handInChecksOn ledger config count (length (now (pool .entry))) time i (length (now (sample .entry))))) ledger core (now (words .entry)) time i class key ⌝ }
+    ensures { λ _. ⌜ now (words .exit) ≡ wordsHandedBy (answerOf (handInChecksOn ledger config count (length (now (pool .entry))) time i (length (now (sample .entry))))) core (now (words .entry)) i class key (length (now (sample .entry))) ⌝ }
+    ensures { λ _. ⌜ now (pool .exit) ≡ poolHandedBy (answerOf (handInChecksOn ledger config count (length (now (pool .entry))) time i (length (now (sample .entry))))) core (now (words .entry)) (config .limits) i class key (now (sample .entry)) (now (pool .entry)) ⌝ }
+{
+    parts::hand_in(
+        ledger,
+        config,
+        count,
+        core,
+        words,
+        pool,
+        time,
+        i,
+        class,
+        key,
+        sample,
+    )
+}
+
+// A send attempt on a station's own words.
+fn send_words(
+    ledger: Ledger,
+    config: PacerConfig,
+    count: u8,
+    core: PacerCore,
+    words: &mut [u64; STATION_WORDS],
+    pool_length: usize,
+    time: u64,
+    i: u8,
+) -> SendTried
+    ensures { λ r. ⌜ r ≡ sentBy (answerOf (sendChecksOn ledger config count «pool_length» time i)) (config .enabled) ledger core (now (words .entry)) time i ⌝ }
+    ensures { λ _. ⌜ now (words .exit) ≡ wordsSentBy (answerOf (sendChecksOn ledger config count «pool_length» time i)) (config .enabled) core (now (words .entry)) time i ⌝ }
+{
+    parts::send(ledger, config, count, core, words, pool_length, time, i)
 }
 
 impl Station {
@@ -291,7 +345,7 @@ impl Station {
         ensures { λ _. ⌜ now (pool .exit) ≡ poolHanded self (length (now (pool .entry))) time i class key (now (sample .entry)) (length (now (sample .entry))) (now (pool .entry)) ⌝ }
     {
         let roster = self.roster;
-        let handed = parts::hand_in(
+        let handed = hand_in_words(
             self.ledger,
             self.config.pacer,
             roster.count,
@@ -320,7 +374,7 @@ impl Station {
         ensures { λ r. ⌜ r ≡ sentStation self (length (now (pool .entry))) time i ⌝ }
     {
         let roster = self.roster;
-        let tried = parts::send(
+        let tried = send_words(
             self.ledger,
             self.config.pacer,
             roster.count,

@@ -9,7 +9,7 @@ use lib.Dec.{ltb, eqb}
 use lib.Ieee.{Float, binary32, ofBits, ofInt, mul, div}
 use lib.Ieee.Casts.{toUnsigned-lt}
 use lib.IntN.{pos}
-use lib.ListN.{length, take, drop, replicate, length-append, length-take}
+use lib.ListN.{length, take, drop, length-append, length-take}
 use Rattle.config.proofs.Refusals.{none-where-accepted}
 use Rattle.config.specs.Refusal.{answerOf, kindUnknown}
 use Rattle.config.specs.declared.config.Priority.{Priority}
@@ -17,7 +17,7 @@ use Rattle.numeric.proofs.Choice.{by-test}
 use Rattle.numeric.specs.Float.{scaled}
 use Rattle.pacing.specs.declared.coalescing.InstanceKey.{InstanceKey}
 use Rattle.signals.specs.RttEstimator.{anyInflated}
-use Rattle.control.specs.BudgetAllocator.{newWriter, blankWriter, takenOf, newTable, writersOf, placeOf, placeFor, lacking, withRow, withoutRow, entered, without, shareOf, sharesOf, budgetFor, withBudget, allottedTable, one, registered, reallocated}
+use Rattle.control.specs.BudgetAllocator.{newWriter, blankWriter, takenOf, newTable, writersOf, placeOf, placeFor, withRow, withoutRow, entered, without, shareOf, sharesOf, budgetFor, withBudget, allottedTable, one, registered, reallocated}
 use Rattle.control.specs.Controller.{newController, registeredIn, sampled, tickedWith, coreTicked, controllerTicked, controllerSet}
 use Rattle.control.specs.declared.budget_allocator.AllocationConfig.{AllocationConfig}
 use Rattle.control.specs.declared.budget_allocator.BudgetAllocator.{BudgetAllocator}
@@ -38,40 +38,9 @@ use Rattle.tape.specs.declared.item.Item.{Item}
 use Rattle.tape.specs.declared.item.Item.the-variants.{End, Broken, Advance, Register, Eagain, Tos, Nacks, Rtt, Tick, HandIn, Send, SetRate}
 use Rattle.tape.specs.declared.text.Fields.{Fields}
 use Rattle.tape.specs.declared.text.Fields.the-variants.{Nothing}
+use Rattle.tape.proofs.Each.{Each, each-append, each-take, each-drop, each-lacking, each-replicate, each-map}
 use Rattle.tape.proofs.Items.{ShortId, item-id}
-use Rattle.tape.proofs.Texts.{short, short-end, short-updates, Each, Narrow}
-
--- ---- a claim that holds of each writer of a list
-
-module _ (P : WriterInfo → Type 0) where
-  each-append : (xs ys : List WriterInfo) → Each P xs → Each P ys → Each P (xs ++ ys)
-  each-append [] ys h q = q
-  each-append (x ∷ xs) ys h q = (h .0, each-append xs ys (h .1) q)
-
-  each-take : (n : ℕ) (ws : List WriterInfo) → Each P ws → Each P (take n ws)
-  each-take zero ws h = tt
-  each-take (suc n) [] h = tt
-  each-take (suc n) (w ∷ ws) h = (h .0, each-take n ws (h .1))
-
-  each-drop : (n : ℕ) (ws : List WriterInfo) → Each P ws → Each P (drop n ws)
-  each-drop zero ws h = h
-  each-drop (suc n) [] h = tt
-  each-drop (suc n) (w ∷ ws) h = each-drop n ws (h .1)
-
-  each-lacking : (ws : List WriterInfo) (k : ℕ) → Each P ws → Each P (lacking ws k)
-  unfolding lacking
-  each-lacking [] k h = tt
-  each-lacking (w ∷ ws) zero h = h .1
-  each-lacking (w ∷ ws) (suc k) h = (h .0, each-lacking ws k (h .1))
-
-  each-replicate : (n : ℕ) (w : WriterInfo) → P w → Each P (replicate n w)
-  each-replicate zero w h = tt
-  each-replicate (suc n) w h = (h, each-replicate n w h)
-
-  -- a map that keeps the claim
-  each-map : (f : WriterInfo → WriterInfo) → ((w : WriterInfo) → P w → P (f w)) → (ws : List WriterInfo) → Each P ws → Each P (map f ws)
-  each-map f keeps [] h = tt
-  each-map f keeps (w ∷ ws) h = (keeps w (h .0), each-map f keeps ws (h .1))
+use Rattle.tape.proofs.Texts.{short, short-end, short-updates, Narrow}
 
 -- ---- the allocator's table
 
@@ -144,7 +113,7 @@ small-entered t w n new ok =
     record {
       few = omega (arith, ok .few);
       narrow =
-          each-lacking Narrow _ 64
+          each-lacking Narrow _ _
           (each-append Narrow (take k (t .rows)) (w ∷ drop k (t .rows)) (each-take Narrow k (t .rows) (ok .narrow))
           (new, each-drop Narrow k (t .rows) (ok .narrow)));
     })

@@ -43,12 +43,13 @@ use Rattle.station.specs.declared.station.StationAnswer.{StationAnswer}
 use Rattle.station.specs.declared.station.StationConfig.{StationConfig}
 use Rattle.station.proofs.Rows.{leftIn, sampled-row}
 use Rattle.station.proofs.Shells.{handed-parts, pool-parts, sent-parts, eagain-parts, nacks-parts, tos-parts, untold-shell, tick-shell, rated-parts, register-parts, rtt-parts, rosterIn, trackerIn, rateIn}
-use Rattle.tape.specs.Desk.{Desk, placeOf, deskOf, stationAt, playerAt, endAt, Stands, isAdvance, isPaced, isSignal, isSample, isRated, ownerOf, rateFor, peerOf, Onward, sharedFor, sharedEnd, haltedAt, haltedEnd, restOf, Ending, endingOf, endedWith, newStationWith}
+use Rattle.tape.specs.Desk.{Desk, placeOf, deskOf, stationAt, playerAt, endAt, Stands, isAdvance, isHandIn, isPaced, isSignal, isSample, isRated, ownerOf, rateFor, peerOf, Onward, sharedFor, sharedEnd, haltedAt, haltedEnd, restOf, Ending, endingOf, endedWith, newPlayerOver}
 use Rattle.tape.specs.Item.{wordsOf, wordsFrom, itemAt, takes, stops, wordAfter, keyAt, bodyAt}
 use Rattle.tape.specs.Run.{Player, playerOf, Told, fields, updates, toldText, Line, lineOf, fieldsWhere, actionFields, rateTold, Step, silent, saying, called, plain, rated, sentBy, played, linesOf, textOf, advanced, tapeSettings, newPlayer, tapeText, roomFor, runOf, ranTape, linesLeft}
 use Rattle.tape.specs.Text.{written, ended, header, fieldsText, lineText}
 use Rattle.tape.specs.declared.item.Item.{Item}
 use Rattle.tape.specs.declared.item.Item.the-variants.{End, Broken, Advance, Register, Eagain, Tos, Nacks, Rtt, Tick, HandIn, Send, SetRate}
+use Rattle.tape.specs.declared.run.Place.{Place}
 use Rattle.tape.specs.declared.text.Fields.{Fields}
 use Rattle.tape.specs.declared.text.Fields.the-variants.{Nothing, Flag, Unchanged}
 use Rattle.tape.proofs.Items.{items-first, items-next, items-end, items-broken, item-whole, item-inside, body-whole, takes-least}
@@ -432,7 +433,7 @@ broken-ends bytes ls at p k e = rw (items-broken bytes k e, append-nil (lineText
 
 -- whose the variants of `Item` are, in the order of their tags
 owners : List ℕ
-owners = 0 ∷ 0 ∷ 1 ∷ 5 ∷ 3 ∷ 3 ∷ 3 ∷ 4 ∷ 6 ∷ 2 ∷ 2 ∷ 6 ∷ []
+owners = 0 ∷ 0 ∷ 1 ∷ 5 ∷ 3 ∷ 3 ∷ 3 ∷ 4 ∷ 6 ∷ 2 ∷ 7 ∷ 6 ∷ []
 
 owner-at : (i : Item) → ownerOf i ≡ getD owners (tagOf the-type i) 0
 unfolding owners
@@ -449,7 +450,7 @@ owner-at (HandIn i c n) = refl
 owner-at (Send i) = refl
 owner-at (SetRate rate) = refl
 
-neither : (a b : Bool) → (a || b) ≡ false → (a ≡ false) × (b ≡ false)
+pub neither : (a b : Bool) → (a || b) ≡ false → (a ≡ false) × (b ≡ false)
 neither true b e = absurd (false≢true (sym e))
 neither false b e = (refl, e)
 
@@ -485,7 +486,15 @@ unpacedTags = 0 ∷ 1 ∷ 2 ∷ 3 ∷ 4 ∷ 5 ∷ 6 ∷ 7 ∷ 8 ∷ 11 ∷ []
 
 pub unpaced-item : (i : Item) → OneOf unpacedTags (tagOf the-type i) → isAdvance i ≡ false → isPaced i ≡ false
 unfolding owners passed
-unpaced-item i h e = ap₂ _||_ e (unowned unpacedTags 2 refl i h)
+unpaced-item i h e = ap₂ _||_ e (ap₂ _||_ (unowned unpacedTags 2 refl i h) (unowned unpacedTags 7 refl i h))
+
+-- what is no hand-in
+abbrev pub unhandedTags : List ℕ
+unhandedTags = 0 ∷ 1 ∷ 2 ∷ 3 ∷ 4 ∷ 5 ∷ 6 ∷ 7 ∷ 8 ∷ 10 ∷ 11 ∷ []
+
+pub unhanded-item : (i : Item) → OneOf unhandedTags (tagOf the-type i) → isHandIn i ≡ false
+unfolding owners passed
+unhanded-item = unowned unhandedTags 2 refl
 
 abbrev pub unsignalledTags : List ℕ
 unsignalledTags = 0 ∷ 1 ∷ 2 ∷ 3 ∷ 7 ∷ 9 ∷ 10 ∷ []
@@ -561,21 +570,25 @@ paced-item (HandIn i c n) h e f g = refl
 paced-item (Send i) h e f g = refl
 paced-item (SetRate rate) h e f g = absurd (false≢true (sym g))
 
--- no rate is shared out where the tape stops
-pub last-item : (i : Item) → stops i ≡ true → isRated i ≡ false
+-- what stops the tape is nobody's
+pub last-owner : (i : Item) → stops i ≡ true → ownerOf i ≡ 0
 unfolding stops
-last-item End e = refl
-last-item Broken e = refl
-last-item (Advance v) e = absurd (false≢true e)
-last-item (Register c id) e = absurd (false≢true e)
-last-item Eagain e = absurd (false≢true e)
-last-item (Tos tos) e = absurd (false≢true e)
-last-item (Nacks count) e = absurd (false≢true e)
-last-item (Rtt peer bits) e = absurd (false≢true e)
-last-item Tick e = absurd (false≢true e)
-last-item (HandIn i c n) e = absurd (false≢true e)
-last-item (Send i) e = absurd (false≢true e)
-last-item (SetRate rate) e = absurd (false≢true e)
+last-owner End e = refl
+last-owner Broken e = refl
+last-owner (Advance v) e = absurd (false≢true e)
+last-owner (Register c id) e = absurd (false≢true e)
+last-owner Eagain e = absurd (false≢true e)
+last-owner (Tos tos) e = absurd (false≢true e)
+last-owner (Nacks count) e = absurd (false≢true e)
+last-owner (Rtt peer bits) e = absurd (false≢true e)
+last-owner Tick e = absurd (false≢true e)
+last-owner (HandIn i c n) e = absurd (false≢true e)
+last-owner (Send i) e = absurd (false≢true e)
+last-owner (SetRate rate) e = absurd (false≢true e)
+
+-- .. so no rate is shared out there
+pub last-item : (i : Item) → stops i ≡ true → isRated i ≡ false
+last-item i e = ap (λ (o : ℕ). eqb o 6) (last-owner i e)
 
 abbrev pub ungivenTags : List ℕ
 ungivenTags = 0 ∷ 1 ∷ 2 ∷ 3 ∷ 4 ∷ 5 ∷ 6 ∷ 7 ∷ 8 ∷ 9 ∷ 10 ∷ []
@@ -742,11 +755,12 @@ hand-in-shell bytes ls c d t a words pool i class n next h words′ pool′ ls�
 
 -- a run's first desk
 pub start-shell :
-    (bytes ls : List ℕ) (c : StationConfig) (at : ℕ) (words pool : List ℕ) (t : PeerRttTracker) (a : BudgetAllocator) (l : Ledger) (settings : ControllerConfig) (k : ControllerCore) (r : Roster)
-    → t ≡ newTracker (ofBits binary32 0x42c8_0000) → a ≡ newAllocator → l ≡ opened 0 → settings ≡ c .controller → k ≡ newCore settings 0 → r ≡ newRoster
-    → endAt bytes c ls (deskOf (placeOf 0 at 0 l) k r) t a words pool ≡ endingOf bytes ls at (playerOf (newStationWith c words) 0 pool) 0
+    (bytes ls : List ℕ) (settings : CongestionConfig) (c : StationConfig) (at : ℕ) (words pool : List ℕ) (p : Place) (t : PeerRttTracker) (a : BudgetAllocator) (control : ControllerConfig) (k : ControllerCore) (r : Roster)
+    → settings ≡ tapeSettings → c ≡ stationConfigOf settings → pool ≡ replicate 47104 0 → p ≡ placeOf 0 at 0 (opened 0)
+    → t ≡ newTracker (ofBits binary32 0x42c8_0000) → a ≡ newAllocator → control ≡ c .controller → k ≡ newCore control 0 → r ≡ newRoster
+    → endAt bytes c ls (deskOf p k r) t a words pool ≡ endingOf bytes ls at (newPlayerOver words) 0
 unfolding newController
-start-shell bytes ls c at words pool t a l settings k r et ea el es ek er = rw (et, ea, el, ek, es, er)
+start-shell bytes ls settings c at words pool p t a control k r es ec eb ep et ea en ek er = rw (ep, eb, et, ea, ek, en, er, ec, es)
 
 -- the whole run, header and all
 run-ends :
@@ -760,24 +774,16 @@ run-ends bytes ls =
     ∙ (ended-ended (length ls) 0 (length header) (length (restOf bytes newPlayer 0)) ∙ ap (ended (length ls) 0) (sym (length-append header (restOf bytes newPlayer 0))))))
 
 pub run-shell :
-    (bytes ls ls′ : List ℕ) (end : ℕ) → ltb (length ls) (roomFor (length bytes)) ≡ false → length (tapeText bytes) ≤ roomFor (length bytes)
-    → endedWith ls′ end ≡ endingOf bytes (written ls 0 header) (ended (length ls) 0 (length header)) newPlayer 0
+    (bytes ls ls₁ : List ℕ) (start : ℕ) (ls′ : List ℕ) (end : ℕ) → ltb (length ls) (roomFor (length bytes)) ≡ false → length (tapeText bytes) ≤ roomFor (length bytes)
+    → ls₁ ≡ written ls 0 header → start ≡ ended (length ls) 0 (length header) → endedWith ls′ end ≡ endingOf bytes ls₁ start newPlayer 0
     → (runOf 0 end ≡ ranTape bytes (length ls)) × (ls′ ≡ linesLeft bytes ls)
 unfolding ranTape linesLeft
-run-shell bytes ls ls′ end room bound e =
-    let all : endedWith ls′ end ≡ endedWith (written ls 0 (tapeText bytes)) (ended (length ls) 0 (length (tapeText bytes))) = e ∙ run-ends bytes ls in
+run-shell bytes ls ls₁ start ls′ end room bound el es e =
+    let all : endedWith ls′ end ≡ endedWith (written ls 0 (tapeText bytes)) (ended (length ls) 0 (length (tapeText bytes))) =
+    e ∙ (ap₂ (λ (l : List ℕ) (n : ℕ). endingOf bytes l n newPlayer 0) el es ∙ run-ends bytes ls) in
     let none : 0 + length (tapeText bytes) ≡ length (tapeText bytes) = omega arith in
     let fit : 0 + length (tapeText bytes) ≤ length ls = omega (arith, bound, ltb-false (length ls) (roomFor (length bytes)) room) in
     rw room (
       ap (runOf 0) (ap (λ (x : Ending). x .end) all ∙ (ended-fits (length ls) 0 (length (tapeText bytes)) fit ∙ none)),
       ap (λ (x : Ending). x .lines) all ∙ (fits ls 0 (tapeText bytes) fit ∙ ap (λ (n : ℕ). tapeText bytes ++ drop n ls) none),
     )
-
-pub first-shell :
-    (bytes ls ls₁ : List ℕ) (start : ℕ) (settings : CongestionConfig) (c : StationConfig) (x : Ending)
-    → ls₁ ≡ written ls 0 header → start ≡ ended (length ls) 0 (length header) → settings ≡ tapeSettings → c ≡ stationConfigOf settings
-    → x ≡ endingOf bytes ls₁ start (playerOf (newStationWith c (replicate 7220 0)) 0 (replicate 47104 0)) 0
-    → x ≡ endingOf bytes (written ls 0 header) (ended (length ls) 0 (length header)) newPlayer 0
-first-shell bytes ls ls₁ start settings c x el es et ec e =
-    e ∙ (ap₂ (λ (l : List ℕ) (n : ℕ). endingOf bytes l n (playerOf (newStationWith c (replicate 7220 0)) 0 (replicate 47104 0)) 0) el es
-    ∙ ap (λ (c : StationConfig). endingOf bytes (written ls 0 header) (ended (length ls) 0 (length header)) (playerOf (newStationWith c (replicate 7220 0)) 0 (replicate 47104 0)) 0) (ec ∙ ap stationConfigOf et))

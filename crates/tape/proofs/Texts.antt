@@ -19,6 +19,7 @@ use Rattle.control.specs.declared.budget_allocator.WriterInfo.{WriterInfo}
 use Rattle.tape.specs.Text.{written, ended, decimalBy, decimal, glyph, space, marked, fieldsText, updateText, eachText, updatesText, lineText}
 use Rattle.tape.specs.declared.text.Fields.{Fields}
 use Rattle.tape.specs.declared.text.Fields.the-variants.{Nothing, Flag, Unchanged, Sent, Empty, Wait}
+use Rattle.tape.proofs.Each.{Each}
 
 -- ---- bytes put one after the other
 
@@ -235,11 +236,6 @@ pub short-end : (index : ℕ) → length (lineText index kindUnknown (fieldsText
 unfolding fieldsText
 short-end index =
     rw line-length (omega (arith, digits-most 20 index, digits-few 20 1 kindUnknown (omega arith) (omega arith)))
-
--- a claim holds of each writer of a list
-abbrev pub Each : (WriterInfo → Type 0) → List WriterInfo → Type 0
-Each P [] = Unit {0}
-Each P (w ∷ ws) = P w × Each P ws
 
 -- an id of at most 8 digits, and budgets of at most 10
 abbrev pub Narrow : WriterInfo → Type 0

@@ -1,10 +1,10 @@
 -- The parts of a run that the program keeps apart, and what each of its loops leaves of them. Definitions only.
 use Prim.Native.Nat.{ℕ, _-_, _<_, _≤_}
 use mathlib.Core.Bool.{Bool, true, false, cond, _||_}
-use mathlib.Core.List.{List}
+use mathlib.Core.List.{List, [], _∷_}
 use mathlib.Core.Path.{_≡_}
 use lib.Dec.{eqb}
-use lib.ListN.{length}
+use lib.ListN.{length, replicate}
 use Rattle.config.specs.Ledger.{opened}
 use Rattle.config.specs.declared.ledger.Ledger.{Ledger}
 use Rattle.signals.specs.RttEstimator.{anyInflated, seatOf, rowAt, withRow}
@@ -15,13 +15,13 @@ use Rattle.control.specs.Controller.{controllerOf, newController}
 use Rattle.control.specs.declared.budget_allocator.BudgetAllocator.{BudgetAllocator}
 use Rattle.control.specs.declared.controller.ControllerCore.{ControllerCore}
 use Rattle.station.specs.Parts.{sharedOut}
-use Rattle.station.specs.Station.{stationOf, newRoster}
+use Rattle.station.specs.Station.{stationConfigOf, stationOf, newRoster}
 use Rattle.station.specs.declared.parts.SharedOut.{SharedOut}
 use Rattle.station.specs.declared.roster.Roster.{Roster}
 use Rattle.station.specs.declared.station.Station.{Station}
 use Rattle.station.specs.declared.station.StationConfig.{StationConfig}
-use Rattle.tape.specs.Item.{wordsOf, itemAt, wordAfter, itemsFrom}
-use Rattle.tape.specs.Run.{Player, playerOf, linesOf, textOf}
+use Rattle.tape.specs.Item.{wordsOf, itemAt, wordAfter, Placed, itemsFrom}
+use Rattle.tape.specs.Run.{tapeSettings, Player, playerOf, linesOf, textOf}
 use Rattle.tape.specs.Text.{written, ended, updatesText, lineText}
 use Rattle.tape.specs.declared.item.Item.{Item}
 use Rattle.tape.specs.declared.item.Item.the-variants.{End, Broken, Advance, Register, Eagain, Tos, Nacks, Rtt, Tick, HandIn, Send, SetRate}
@@ -72,8 +72,8 @@ Stands bytes word next item = (itemAt bytes word ≡ item) × (next ≡ wordAfte
 
 -- ---- what each loop goes over
 
--- whose an item is: 0 nobody's, the tape stops; 1 the clock's; 2 the pacers'; 3 the core's; 4 the peers'; 5 the writers'; 6 the core's and, where a rate
--- is to be shared out, the writers'
+-- whose an item is: 0 nobody's, the tape stops; 1 the clock's; 2 the pacers', a hand-in, and 7, a send attempt; 3 the core's; 4 the peers'; 5 the
+-- writers'; 6 the core's and, where a rate is to be shared out, the writers'
 abbrev pub ownerOf : Item → ℕ
 ownerOf End = 0
 ownerOf Broken = 0
@@ -85,15 +85,18 @@ ownerOf (Nacks count) = 3
 ownerOf (Rtt peer bits) = 4
 ownerOf Tick = 6
 ownerOf (HandIn i c n) = 2
-ownerOf (Send i) = 2
+ownerOf (Send i) = 7
 ownerOf (SetRate rate) = 6
 
 abbrev pub isAdvance : Item → Bool
 isAdvance item = eqb (ownerOf item) 1
 
+abbrev pub isHandIn : Item → Bool
+isHandIn item = eqb (ownerOf item) 2
+
 -- hand-ins and send attempts; each loop goes over advances too
 abbrev pub isPaced : Item → Bool
-isPaced item = isAdvance item || eqb (ownerOf item) 2
+isPaced item = isAdvance item || (isHandIn item || eqb (ownerOf item) 7)
 
 -- signals but samples; a tick and a rate setting end the loop where a rate is to be shared out
 abbrev pub isSignal : Item → Bool
@@ -225,6 +228,12 @@ HaltedOn inflated bytes c ls p k ls′ p′ k′ =
 abbrev pub endedWith : List ℕ → ℕ → Ending
 endedWith ls end = record { lines = ls; end = end }
 
--- a station just made, whatever its words hold
-abbrev pub newStationWith : StationConfig → List ℕ → Station
-newStationWith c words = stationOf (opened 0) c (newController (c .controller) 0) newRoster words
+-- the tape's station just made, whatever its words are
+abbrev pub newPlayerOver : List ℕ → Player
+newPlayerOver words =
+    playerOf (stationOf (opened 0) (stationConfigOf tapeSettings) (newController (stationConfigOf tapeSettings .controller) 0) newRoster words) 0 (replicate 47104 0)
+
+-- whether a record is handed in
+unfoldable pub handsIn : List Placed → Bool
+handsIn [] = false
+handsIn (x ∷ xs) = isHandIn (x .item) || handsIn xs

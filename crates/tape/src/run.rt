@@ -5,10 +5,11 @@ ghost use mathlib.Core.Path.{_≡_};
 ghost use Prim.Native.Nat.{ℕ};
 ghost use lib.Dec.{ltb};
 ghost use lib.ListN.{length};
-ghost use Rattle.tape.specs.Item.{itemAt, stops};
+ghost use Rattle.config.specs.Ledger.{opened};
+ghost use Rattle.tape.specs.Item.{itemAt, stops, itemsOf};
 ghost use Rattle.tape.specs.declared.item.Item.the-variants.{HandIn, Send, Eagain, Nacks, Tos, Tick, Register, Rtt, SetRate};
-ghost use Rattle.tape.specs.Run.{Player, playerOf, tapeSettings, advanced, fieldsWhere, actionFields, roomFor, ranTape, linesLeft};
-ghost use Rattle.tape.specs.Desk.{placeOf, deskOf, Stands, Onward, isAdvance, isPaced, isSignal, isSample, isRated, rateFor, peerOf, Waited, PacedOn, SignalledOn, HaltedOn, RowSampledOn, SampledOn, RegisteredOn, sharedFor, sharedLines, sharedPlace, endingOf, endedWith, newStationWith};
+ghost use Rattle.tape.specs.Run.{Player, newPlayer, tapeSettings, advanced, fieldsWhere, actionFields, roomFor, ranTape, linesLeft};
+ghost use Rattle.tape.specs.Desk.{placeOf, Stands, Onward, isAdvance, isHandIn, isPaced, isSignal, isSample, isRated, rateFor, peerOf, Waited, PacedOn, SignalledOn, HaltedOn, RowSampledOn, SampledOn, RegisteredOn, sharedFor, sharedLines, sharedPlace, endingOf, endedWith, newPlayerOver, handsIn};
 ghost use Rattle.tape.specs.Text.{written, ended, fieldsText, lineText};
 use crate::item;
 use crate::item::Item;
@@ -35,6 +36,9 @@ use station::station::StationConfig;
 
 // The pool of four writers at queue limits 2, 4 and 2.
 const POOL_BYTES: usize = 47104;
+
+// The bytes of the longest tape that is looked through for hand-ins.
+const LOOKED_THROUGH: usize = 1024;
 
 // The clock stops at 2^63.
 const CLOCK_STOP: u64 = 0x8000_0000_0000_0000;
@@ -207,8 +211,8 @@ fn hand_in(
     roster: Roster,
     next: usize,
     config: StationConfig,
-    words: &mut [u64; STATION_WORDS],
-    pool: &mut [u8],
+    words: &mut [u64],
+    pool: &mut [u8; POOL_BYTES],
     lines: &mut [u8],
     pacer: u8,
     class: Priority,
@@ -244,7 +248,7 @@ fn send(
     roster: Roster,
     next: usize,
     config: StationConfig,
-    words: &mut [u64; STATION_WORDS],
+    words: &mut [u64],
     pool_length: usize,
     lines: &mut [u8],
     pacer: u8,
@@ -273,14 +277,21 @@ fn send(
     }
 }
 
+// How many bytes a pool has.
+fn room_of(pool: &[u8]) -> usize
+    ensures { λ r. ⌜ r ≡ length (now (pool .entry)) ⌝ }
+{
+    pool.len()
+}
+
 // An item of the pacers, after the advances before it.
 fn pace(
     tape: &[u8],
     from: Place,
     roster: Roster,
     config: StationConfig,
-    words: &mut [u64; STATION_WORDS],
-    pool: &mut [u8],
+    words: &mut [u64],
+    pool: &mut [u8; POOL_BYTES],
     lines: &mut [u8],
 ) -> Paced
     ensures { λ r. ⌜ Onward (now (tape .entry)) isPaced (from .word) (r .place .word) (r .moved) ⌝ }
@@ -307,7 +318,10 @@ fn pace(
             class,
             length,
         ),
-        Item::Send(pacer) => send(place, roster, next, config, words, pool.len(), lines, pacer),
+        Item::Send(pacer) => {
+            let room = room_of(pool);
+            send(place, roster, next, config, words, room, lines, pacer)
+        }
         _ => Paced {
             place,
             roster,
@@ -322,8 +336,8 @@ fn pace_on(
     from: Place,
     writers: Roster,
     config: StationConfig,
-    words: &mut [u64; STATION_WORDS],
-    pool: &mut [u8],
+    words: &mut [u64],
+    pool: &mut [u8; POOL_BYTES],
     lines: &mut [u8],
 ) -> Paced
     ensures { λ r. ⌜ Onward (now (tape .entry)) isPaced (from .word) (r .place .word) false ⌝ }
@@ -703,6 +717,19 @@ fn rate_of(item: Item, rate: u32) -> u32
     }
 }
 
+fn is_hand_in(item: Item) -> bool
+    ensures { λ r. ⌜ r ≡ isHandIn item ⌝ }
+{
+    match item {
+        Item::HandIn {
+            pacer: _,
+            class: _,
+            length: _,
+        } => true,
+        _ => false,
+    }
+}
+
 // Whether an item stops the tape.
 fn is_last(item: Item) -> bool
     ensures { λ r. ⌜ r ≡ stops item ⌝ }
@@ -730,30 +757,32 @@ fn finish(tape: &[u8], place: Place, lines: &mut [u8]) -> usize
     }
 }
 
-// All items of a tape, on a station just made; answers where the lines end.
-fn play(
-    tape: &[u8],
-    config: StationConfig,
-    start: usize,
-    words: &mut [u64; STATION_WORDS],
-    pool: &mut [u8],
-    lines: &mut [u8],
-) -> usize
-    ensures { λ r. ⌜ endedWith (now (lines .exit)) r ≡ endingOf (now (tape .entry)) (now (lines .entry)) start (playerOf (newStationWith config (now (words .entry))) 0 (now (pool .entry))) 0 ⌝ }
+// The place before the first item, the lines begun.
+fn first_place(start: usize) -> Place
+    ensures { λ r. ⌜ r ≡ placeOf 0 start 0 (opened 0) ⌝ }
 {
-    let mut place = Place {
+    Place {
         word: 0,
         at: start,
         clock: 0,
         ledger: Ledger::new(0),
-    };
+    }
+}
+
+// All items of a tape, on a station just made over these words; answers where the lines end.
+fn play(tape: &[u8], start: usize, words: &mut [u64], lines: &mut [u8]) -> usize
+    ensures { λ r. ⌜ endedWith (now (lines .exit)) r ≡ endingOf (now (tape .entry)) (now (lines .entry)) start (newPlayerOver (now (words .entry))) 0 ⌝ }
+{
+    let config = StationConfig::of(settings());
+    let mut pool = [0u8; POOL_BYTES];
+    let mut place = first_place(start);
     let mut core = ControllerCore::new(config.controller(), 0);
     let mut roster = Roster::new();
     let mut tracker = PeerRttTracker::new(100.0);
     let mut allocator = BudgetAllocator::new();
     let mut inflated = tracker.any_inflated();
     loop {
-        let paced = pace_on(tape, place, roster, config, words, pool, lines);
+        let paced = pace_on(tape, place, roster, config, words, &mut pool, lines);
         roster = paced.roster;
         let signalled = signal_on(tape, paced.place, core, config, inflated, lines);
         core = signalled.core;
@@ -789,6 +818,45 @@ fn play(
     }
 }
 
+// Whether a tape hands a record in.
+fn hands_in(tape: &[u8]) -> bool
+    ensures { λ r. ⌜ r ≡ handsIn (itemsOf (now (tape .entry))) ⌝ }
+{
+    let mut word: usize = 0;
+    loop {
+        let found = item::item_at(tape, word);
+        if is_last(found) {
+            return false;
+        }
+        if is_hand_in(found) {
+            return true;
+        }
+        word = item::word_after(tape, word, found);
+    }
+}
+
+// Whether a tape may need a pacer's words, which only hand-ins do. A long tape is not looked through: to zero the words takes less.
+fn needs_words(tape: &[u8]) -> bool
+    ensures { λ r. ⌜ (r ≡ false → handsIn (itemsOf (now (tape .entry))) ≡ false) ⌝ }
+{
+    if LOOKED_THROUGH < tape.len() {
+        return true;
+    }
+    hands_in(tape)
+}
+
+// All items of a tape, on a station just made; a tape that hands nothing in is played without words.
+fn play_all(tape: &[u8], start: usize, lines: &mut [u8]) -> usize
+    ensures { λ r. ⌜ endedWith (now (lines .exit)) r ≡ endingOf (now (tape .entry)) (now (lines .entry)) start newPlayer 0 ⌝ }
+{
+    if needs_words(tape) {
+        let mut words = [0u64; STATION_WORDS];
+        return play(tape, start, &mut words, lines);
+    }
+    let mut none = [0u64; 1];
+    play(tape, start, &mut none, lines)
+}
+
 // Plays a tape and writes its lines; 8 where the buffer is shorter than 24 bytes and 192 for each word.
 pub fn run(tape: &[u8], lines: &mut [u8]) -> TapeRun
     ensures { λ r. ⌜ r ≡ ranTape (now (tape .entry)) (length (now (lines .entry))) ⌝ }
@@ -800,11 +868,8 @@ pub fn run(tape: &[u8], lines: &mut [u8]) -> TapeRun
             length: 0,
         };
     }
-    let mut words = [0u64; STATION_WORDS];
-    let mut pool = [0u8; POOL_BYTES];
-    let config = StationConfig::of(settings());
     let start = text::put_header(lines, 0);
-    let end = play(tape, config, start, &mut words, &mut pool, lines);
+    let end = play_all(tape, start, lines);
     TapeRun {
         answer: 0,
         length: end as u64,

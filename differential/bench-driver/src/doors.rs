@@ -44,6 +44,10 @@ pub fn table(day: Vec<u8>) -> Table {
         add(format!("key hash, {length} bytes"), list::key(length));
     }
     add("decrease".into(), list::decreases());
+    for length in [8, 64] {
+        add(format!("key hash, {length} bytes, both called"), list::called(list::key(length)));
+    }
+    add("decrease, both called".into(), list::called(list::decreases()));
     Table { library: Library::default(), oracle: Oracle::default(), rows }
 }
 

@@ -22,6 +22,8 @@ pub enum Input {
     /// The bytes of a key, and how often they are hashed in one timed run.
     Key { bytes: Vec<u8>, times: usize },
     Decreases(Vec<Decrease>),
+    /// A key or decreases, on the Rust too behind a C function, which is not compiled into the loop that calls it.
+    Called(Box<Input>),
 }
 
 pub struct Decrease {
@@ -37,6 +39,7 @@ impl Input {
             Input::Tape { tape, times, .. } => ("word", tape.len().div_ceil(4) * times),
             Input::Key { bytes, times } => ("byte", bytes.len() * times),
             Input::Decreases(decreases) => ("call", decreases.len()),
+            Input::Called(input) => input.units(),
         }
     }
 
@@ -268,6 +271,10 @@ pub fn decreases() -> Input {
         least: 10_000,
     };
     Input::Decreases((0..DECREASES).map(any).collect())
+}
+
+pub fn called(input: Input) -> Input {
+    Input::Called(Box::new(input))
 }
 
 fn any_bytes(random: &mut Random, length: usize) -> Vec<u8> {

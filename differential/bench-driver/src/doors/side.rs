@@ -14,6 +14,9 @@ use crate::tape::run::{Fields, Reply, Runner};
 
 use super::list::{Decrease, Input};
 
+/// The bytes of a C function's result.
+const RESULT_BYTES: usize = 8;
+
 extern "C" {
     fn bowunte_key_hash(data: *const u8, data_len: usize, out: *mut u8, out_len: usize) -> u32;
     fn bowunte_rate_decrease(rate: u32, factor: f32, least_rate: u32, out: *mut u8, out_len: usize) -> u32;
@@ -41,6 +44,10 @@ pub fn assert_agreed(library: &mut Library, oracle: &mut Oracle, input: &Input) 
                 assert_eq!(decreased(decrease), u64::from(decrease_of_rust(decrease)), "a rate after a decrease");
             }
         }
+        Input::Called(input) => {
+            assert_agreed(library, oracle, input);
+            assert_eq!(library.run(input), run_called(input), "the Rust behind a C function");
+        }
     }
 }
 
@@ -56,6 +63,7 @@ impl Library {
             Input::Tape { tape, times, .. } => again(*times, || self.play(black_box(tape)) as u64),
             Input::Key { bytes, times } => again(*times, || key_hash(black_box(bytes))),
             Input::Decreases(decreases) => decreases.iter().fold(0, |sum, decrease| mix(sum, decreased(decrease))),
+            Input::Called(input) => self.run(input),
         }
     }
 
@@ -87,7 +95,7 @@ fn decreased(decrease: &Decrease) -> u64 {
 
 /// The result that a function writes to the 8 bytes it is lent; every input here is accepted.
 fn result(call: impl FnOnce(*mut u8, usize) -> u32) -> u64 {
-    let mut out = [0; 8];
+    let mut out = [0; RESULT_BYTES];
     let answer = call(out.as_mut_ptr(), out.len());
     assert_eq!(answer, 0, "an input that is turned down");
     u64::from_le_bytes(out)
@@ -110,6 +118,7 @@ impl Oracle {
             Input::Decreases(decreases) => {
                 decreases.iter().fold(0, |sum, decrease| mix(sum, decrease_of_rust(decrease).into()))
             }
+            Input::Called(input) => run_called(input),
         }
     }
 
@@ -137,6 +146,55 @@ fn decrease_of_rust(decrease: &Decrease) -> u32 {
     let Decrease { rate, factor, least } = *decrease;
     let controller = RateController::with_params(rate, least, 1_000_000_000, 50_000, factor, factor);
     controller.preview_action(CongestionAction::DecreaseHard)
+}
+
+/// A key or decreases on the Rust behind C functions of its own.
+fn run_called(input: &Input) -> u64 {
+    match input {
+        Input::Key { bytes, times } => again(*times, || {
+            let bytes = black_box(bytes);
+            result(|out, room| rust_key_hash(bytes.as_ptr(), bytes.len(), out, room))
+        }),
+        Input::Decreases(decreases) => decreases.iter().fold(0, |sum, decrease| {
+            let Decrease { rate, factor, least } = *decrease;
+            mix(sum, result(|out, room| rust_rate_decrease(rate, factor, least, out, room)))
+        }),
+        Input::Tape { .. } | Input::Called(_) => unreachable!("a tape is not called so"),
+    }
+}
+
+/// The Rust's hash as `bowunte_key_hash` has it: an answer number, and 8 bytes in a lent slice.
+#[no_mangle]
+#[inline(never)]
+extern "C" fn rust_key_hash(data: *const u8, data_len: usize, out: *mut u8, out_len: usize) -> u32 {
+    if out_len < RESULT_BYTES {
+        return refusal::BUFFER as u32;
+    }
+    // The caller's slice is as long as is said.
+    put_result(out, hash_bytes(unsafe { std::slice::from_raw_parts(data, data_len) }));
+    0
+}
+
+/// The Rust's decrease as `bowunte_rate_decrease` has it, with the same numbers.
+#[no_mangle]
+#[inline(never)]
+extern "C" fn rust_rate_decrease(rate: u32, factor: f32, least: u32, out: *mut u8, out_len: usize) -> u32 {
+    if !(factor > 0.0 && factor <= 1.0) {
+        return refusal::SETTINGS as u32;
+    }
+    if least < 1 || rate < least || rate > 1_000_000_000 {
+        return refusal::RATE as u32;
+    }
+    if out_len < RESULT_BYTES {
+        return refusal::BUFFER as u32;
+    }
+    put_result(out, decrease_of_rust(&Decrease { rate, factor, least }).into());
+    0
+}
+
+fn put_result(out: *mut u8, number: u64) {
+    // `out` has room for the result: it was looked at.
+    unsafe { out.cast::<[u8; RESULT_BYTES]>().write(number.to_le_bytes()) }
 }
 
 /// The line of a word; `write!` to a String cannot fail.

@@ -24,8 +24,11 @@ hand-in-requires c κs = search needs
 same-length : tie.Need-same-length
 same-length c = search needs
 
+same-length-2 : tie.Need-same-length-2
+same-length-2 c = search needs
+
 returns : tie.Need-returns
-returns c = rw (← after-hand-in (c .before .before .before .before .before .before .before .before .before .before .before .before .args .ledger) (c .before .before .before .before .before .before .before .before .before .before .before .before .args .config) _ _ _ _ _, ← c .before .before .before .before .before .before .before .before .before .limits .ensures, ← c .before .before .before .before .before .before .before .slots-needed .ensures, ← c .before .before .before .before .before .before .before .before .enabled .ensures, ← c .before .before .before .before .before .before .check-hand-in .ensures, ← c .before .before .before .before .before .check-pacer .ensures) (c .before .before .hand-in .ensures)
+returns c = rw (← after-hand-in (c .before .before .before .before .before .before .before .before .before .before .before .before .before .before .before .args .ledger) (c .before .before .before .before .before .before .before .before .before .before .before .before .before .before .before .args .config) _ _ _ _ _, ← c .before .before .before .before .before .before .before .before .before .before .before .limits .ensures, ← c .before .before .before .before .before .before .before .before .before .slots-needed .ensures, ← c .before .before .before .before .before .before .before .before .before .before .enabled .ensures, ← c .before .before .before .before .before .before .before .before .check-hand-in .ensures, ← c .before .before .before .before .before .before .before .check-pacer .ensures) (c .before .before .before .before .hand-in .ensures)
 
 pub hand-in-spec : {M : Type 1} → statement M
 hand-in-spec =
@@ -38,4 +41,5 @@ hand-in-spec =
     check-pacer-requires
     hand-in-requires
     same-length
+    same-length-2
     returns)

@@ -21,8 +21,11 @@ enabled-requires c κs = search needs
 send-requires : tie.Need-send-requires
 send-requires c κs = search needs
 
+same-length : tie.Need-same-length
+same-length c = search needs
+
 returns : tie.Need-returns
-returns c = rw (← after-send (c .before .before .before .before .before .before .before .args .ledger) (c .before .before .before .before .before .before .before .args .config) _ _ _ _, ← c .before .before .before .before .before .before .limits .ensures, ← c .before .before .before .before .before .slots-needed .ensures, ← c .before .before .before .before .check-send .ensures, ← c .before .before .before .check-pacer .ensures, ← c .before .before .enabled .ensures) (c .send .ensures)
+returns c = rw (← after-send (c .before .before .before .before .before .before .before .before .before .before .args .ledger) (c .before .before .before .before .before .before .before .before .before .before .args .config) _ _ _ _, ← c .before .before .before .before .before .before .before .before .limits .ensures, ← c .before .before .before .before .before .before .before .slots-needed .ensures, ← c .before .before .before .before .before .before .check-send .ensures, ← c .before .before .before .before .before .check-pacer .ensures, ← c .before .before .before .before .enabled .ensures) (c .before .before .send .ensures)
 
 pub send-spec : {M : Type 1} → statement M
 send-spec =
@@ -34,4 +37,5 @@ send-spec =
     check-pacer-requires
     enabled-requires
     send-requires
+    same-length
     returns)

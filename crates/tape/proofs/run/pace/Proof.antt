@@ -24,6 +24,9 @@ hand-in-requires c κs = search needs
 enum-known-found-2 : tie.Need-enum-known-found-2
 enum-known-found-2 c = search needs
 
+room-of-requires : tie.Need-room-of-requires
+room-of-requires c κs = search needs
+
 send-requires : tie.Need-send-requires
 send-requires c κs = search needs
 
@@ -41,10 +44,13 @@ returns c = let on = c .before .before .before .before .before .before .before .
 same-length-3 : tie.Need-same-length-3
 same-length-3 c = search needs
 
+same-length-4 : tie.Need-same-length-4
+same-length-4 c = search needs
+
 returns-2 : tie.Need-returns-2
 unfolding stops
-returns-2 c = let on = c .before .before .before .before .before .before .before .before .before .before .skip-on .ensures in let st = stands-at _ _ _ _ _ (c .before .before .before .before .before .before .before .before .before .item-at .ensures) (c .before .before .before .before .before .before .before .before .word-after .ensures) (c .before .before .before .before .before .before .found2 .given .1) in let sent = c .before .before .send .ensures in
-    (moved-on _ isPaced _ _ _ _ _ _ (on .0 .ahead) st refl (sent .0) (sent .1 .0), λ k t a. sent .1 .1 _ _ st refl k t a ∙ on .1 _ _ k _ t a _ _)
+returns-2 c = let on = c .before .before .before .before .before .before .before .before .before .before .before .before .before .before .before .skip-on .ensures in let st = stands-at _ _ _ _ _ (c .before .before .before .before .before .before .before .before .before .before .before .before .before .before .item-at .ensures) (c .before .before .before .before .before .before .before .before .before .before .before .before .before .word-after .ensures) (c .before .before .before .before .before .before .before .before .before .before .before .found2 .given .1) in let sent = c .before .before .before .before .send .ensures in
+    (moved-on _ isPaced _ _ _ _ _ _ (on .0 .ahead) st refl (sent .0) (sent .1 .0), λ k t a. sent .1 .1 _ _ st (sym (c .before .before .before .before .before .before .before .room-of .ensures)) k t a ∙ on .1 _ _ k _ t a _ _)
 
 returns-3 : tie.Need-returns-3
 returns-3 c = let on = c .before .before .before .skip-on .ensures in let at = c .before .before .item-at in
@@ -60,10 +66,12 @@ pace-spec =
     enum-known-found
     hand-in-requires
     enum-known-found-2
+    room-of-requires
     send-requires
     same-length
     same-length-2
     returns
     same-length-3
+    same-length-4
     returns-2
     returns-3)

@@ -17,7 +17,7 @@ use Rattle.tape.proofs.run.pace_on.Tie as tie
 -- from the first place to a later one: the buffers keep their lengths, and the run's end stays
 record Going (tape : List ℕ) (c : StationConfig) (ls : List ℕ) (p : Place) (g : Roster) (words pool ls′ : List ℕ) (p′ : Place) (g′ : Roster) (words′ pool′ : List ℕ) : Type 0 where
   same-lines : length ls′ ≡ length ls
-  same-pool : length pool′ ≡ length pool
+  same-words : length words′ ≡ length words
   reached : Reached tape (p .word) (p′ .word)
   kept : PacedOn tape c ls p g words pool ls′ p′ g′ words′ pool′
 
@@ -28,13 +28,13 @@ abbrev μ-loop : tie.MeasureT-loop
 μ-loop tape config words₀ pool₀ lines₀ place₀ roster₀ words pool lines place roster = wordsOf (length tape) - place .word
 
 loop-holds : tie.Need-loop-holds Inv-loop μ-loop
-loop-holds c = record { same-lines = refl; same-pool = refl; reached = (omega arith, λ e. e); kept = λ k t a. refl }
+loop-holds c = record { same-lines = refl; same-words = refl; reached = (omega arith, λ e. e); kept = λ k t a. refl }
 
 pace-requires : tie.Need-pace-requires Inv-loop μ-loop
 pace-requires c κs = search needs
 
 same-length : tie.Need-same-length Inv-loop μ-loop
-same-length c = c .before .before .before .before .before .before .before .pace .kept .1 .1 .1 .1 .1 .0 ∙ c .before .before .before .before .before .before .before .before .before .before .before .loop .inv .same-pool
+same-length c = c .before .before .before .before .before .before .before .pace .kept .1 .1 .1 .1 .0 ∙ c .before .before .before .before .before .before .before .before .before .before .before .loop .inv .same-words
 
 same-length-2 : tie.Need-same-length-2 Inv-loop μ-loop
 same-length-2 c = c .before .before .before .before .before .before .before .pace .kept .1 .1 .1 .1 .1 .1 .0 ∙ c .before .before .before .before .before .before .before .before .before .before .before .loop .inv .same-lines
@@ -50,7 +50,7 @@ loop-again : tie.Need-loop-again Inv-loop μ-loop
 loop-again c = let l = c .before .before .before .before .before .before .before .before .before .before .before .loop in let step = c .before .before .before .before .before .before .before .pace in
     record {
       same-lines = step .kept .1 .1 .1 .1 .1 .1 .0 ∙ l .inv .same-lines;
-      same-pool = step .kept .1 .1 .1 .1 .1 .0 ∙ l .inv .same-pool;
+      same-words = step .kept .1 .1 .1 .1 .0 ∙ l .inv .same-words;
       reached = reached-on _ isPaced _ _ _ _ (l .inv .reached) (step .ensures .0);
       kept = λ k t a. step .ensures .1 k t a ∙ l .inv .kept k t a;
     }

@@ -24,21 +24,30 @@ record Going
     (tape : List ℕ) (c : StationConfig) (ls : List ℕ) (p : Place) (k : ControllerCore) (g : Roster) (t : PeerRttTracker) (a : BudgetAllocator) (words pool : List ℕ)
     (ls′ : List ℕ) (p′ : Place) (k′ : ControllerCore) (g′ : Roster) (t′ : PeerRttTracker) (a′ : BudgetAllocator) (words′ pool′ : List ℕ) (inflated : Bool) : Type 0 where
   same-lines : length ls′ ≡ length ls
-  same-pool : length pool′ ≡ length pool
+  same-words : length words′ ≡ length words
   told : inflated ≡ anyInflated t′
   kept : endAt tape c ls′ (deskOf p′ k′ g′) t′ a′ words′ pool′ ≡ endAt tape c ls (deskOf p k g) t a words pool
 
 abbrev Inv-loop : tie.InvT-loop
-Inv-loop tape config start words₀ pool₀ lines₀ place₀ core₀ roster₀ tracker₀ allocator₀ inflated₀ words pool lines place core roster tracker allocator inflated = Going tape config lines₀ place₀ core₀ roster₀ tracker₀ allocator₀ words₀ pool₀ lines place core roster tracker allocator words pool inflated
+Inv-loop tape start words₀ lines₀ config pool₀ place₀ core₀ roster₀ tracker₀ allocator₀ inflated₀ words lines pool place core roster tracker allocator inflated = Going tape config lines₀ place₀ core₀ roster₀ tracker₀ allocator₀ words₀ pool₀ lines place core roster tracker allocator words pool inflated
 
 abbrev μ-loop : tie.MeasureT-loop
-μ-loop tape config start words₀ pool₀ lines₀ place₀ core₀ roster₀ tracker₀ allocator₀ inflated₀ words pool lines place core roster tracker allocator inflated = wordsOf (length tape) - place .word
+μ-loop tape start words₀ lines₀ config pool₀ place₀ core₀ roster₀ tracker₀ allocator₀ inflated₀ words lines pool place core roster tracker allocator inflated = wordsOf (length tape) - place .word
 
-new-requires : tie.Need-new-requires Inv-loop μ-loop
-new-requires c κs = search needs
+settings-requires : tie.Need-settings-requires Inv-loop μ-loop
+settings-requires c κs = search needs
+
+of-requires : tie.Need-of-requires Inv-loop μ-loop
+of-requires c κs = search needs
+
+first-place-requires : tie.Need-first-place-requires Inv-loop μ-loop
+first-place-requires c κs = search needs
 
 controller-requires : tie.Need-controller-requires Inv-loop μ-loop
 controller-requires c κs = search needs
+
+new-requires : tie.Need-new-requires Inv-loop μ-loop
+new-requires c κs = search needs
 
 new-requires-2 : tie.Need-new-requires-2 Inv-loop μ-loop
 new-requires-2 c κs = search needs
@@ -49,14 +58,11 @@ new-requires-3 c κs = search needs
 new-requires-4 : tie.Need-new-requires-4 Inv-loop μ-loop
 new-requires-4 c κs = search needs
 
-new-requires-5 : tie.Need-new-requires-5 Inv-loop μ-loop
-new-requires-5 c κs = search needs
-
 any-inflated-requires : tie.Need-any-inflated-requires Inv-loop μ-loop
 any-inflated-requires c κs = search needs
 
 loop-holds : tie.Need-loop-holds Inv-loop μ-loop
-loop-holds c = record { same-lines = refl; same-pool = refl; told = c .any-inflated .ensures; kept = refl }
+loop-holds c = record { same-lines = refl; same-words = refl; told = c .any-inflated .ensures; kept = refl }
 
 pace-on-requires : tie.Need-pace-on-requires Inv-loop μ-loop
 pace-on-requires c κs = search needs
@@ -85,7 +91,7 @@ loop-again : tie.Need-loop-again Inv-loop μ-loop
 loop-again c = let l = c .before .before .before .before .before .before .before .before .before .before .before .before .before .before .before .before .before .before .before .before .before .before .before .before .before .before .before .loop in let paced = c .before .before .before .before .before .before .before .before .before .before .before .before .before .before .before .before .before .before .before .before .before .before .before .pace-on in let signalled = c .before .before .before .before .before .before .before .before .before .before .before .before .before .before .before .before .signal-on in let st = stands-at _ _ _ _ _ (c .before .before .before .before .before .before .before .before .before .before .before .item-at .ensures) (c .before .before .before .before .before .before .before .before .before .before .word-after .ensures) (c .before .before .before .before .before .before .before .before .found .given .1) in
     record {
       same-lines = c .before .before .before .before .before .register .kept .1 .1 .1 .1 .1 .0 ∙ (signalled .kept .1 .1 .1 .1 .1 .0 ∙ (paced .kept .1 .1 .1 .1 .1 .1 .0 ∙ l .inv .same-lines));
-      same-pool = paced .kept .1 .1 .1 .1 .1 .0 ∙ l .inv .same-pool;
+      same-words = paced .kept .1 .1 .1 .1 .0 ∙ l .inv .same-words;
       told = l .inv .told;
       kept = c .before .before .before .before .before .register .ensures .1 _ st _ _ _ _ ∙ (sym (halted-still _ _ _ _ _ _ _ _ (sym (ap isRated (c .before .before .before .before .before .before .before .before .before .before .before .item-at .ensures)) ∙ ap isRated (c .before .before .before .before .before .before .before .before .found .given .1))) ∙ (signalled .ensures .1 _ (l .tracker) (l .allocator) _ _ (l .inv .told) ∙ (paced .ensures .1 (l .core) (l .tracker) (l .allocator) ∙ l .inv .kept)));
     }
@@ -108,7 +114,7 @@ loop-again-2 : tie.Need-loop-again-2 Inv-loop μ-loop
 loop-again-2 c = let l = c .before .before .before .before .before .before .before .before .before .before .before .before .before .before .before .before .before .before .before .before .before .before .before .before .before .before .loop in let paced = c .before .before .before .before .before .before .before .before .before .before .before .before .before .before .before .before .before .before .before .before .before .before .pace-on in let signalled = c .before .before .before .before .before .before .before .before .before .before .before .before .before .before .before .signal-on in
     record {
       same-lines = c .before .before .before .before .before .sample-on .kept .1 .1 .1 .1 .0 ∙ (signalled .kept .1 .1 .1 .1 .1 .0 ∙ (paced .kept .1 .1 .1 .1 .1 .1 .0 ∙ l .inv .same-lines));
-      same-pool = paced .kept .1 .1 .1 .1 .1 .0 ∙ l .inv .same-pool;
+      same-words = paced .kept .1 .1 .1 .1 .0 ∙ l .inv .same-words;
       told = c .any-inflated2 .ensures;
       kept = c .before .before .before .before .before .sample-on .ensures .1 _ _ _ _ _ ∙ (sym (halted-still _ _ _ _ _ _ _ _ (sym (ap isRated (c .before .before .before .before .before .before .before .before .before .before .item-at .ensures)) ∙ ap isRated (c .before .before .before .before .before .before .before .enum-told .given .1))) ∙ (signalled .ensures .1 _ (l .tracker) (l .allocator) _ _ (l .inv .told) ∙ (paced .ensures .1 (l .core) (l .tracker) (l .allocator) ∙ l .inv .kept)));
     }
@@ -120,17 +126,17 @@ finish-requires : tie.Need-finish-requires Inv-loop μ-loop
 finish-requires c κs = search needs
 
 same-length : tie.Need-same-length Inv-loop μ-loop
-same-length c = let l = c .before .before .before .before .before .before .before .before .before .before .before .before .before .before .before .before .before .before .before .before .before .before .before .before .loop in let paced = c .before .before .before .before .before .before .before .before .before .before .before .before .before .before .before .before .before .before .before .before .pace-on in let signalled = c .before .before .before .before .before .before .before .before .before .before .before .before .before .signal-on in paced .kept .1 .1 .1 .1 .1 .0 ∙ l .inv .same-pool
+same-length c = let l = c .before .before .before .before .before .before .before .before .before .before .before .before .before .before .before .before .before .before .before .before .before .before .before .before .loop in let paced = c .before .before .before .before .before .before .before .before .before .before .before .before .before .before .before .before .before .before .before .before .pace-on in let signalled = c .before .before .before .before .before .before .before .before .before .before .before .before .before .signal-on in paced .kept .1 .1 .1 .1 .0 ∙ l .inv .same-words
 
 same-length-2 : tie.Need-same-length-2 Inv-loop μ-loop
 same-length-2 c = let l = c .before .before .before .before .before .before .before .before .before .before .before .before .before .before .before .before .before .before .before .before .before .before .before .before .loop in let paced = c .before .before .before .before .before .before .before .before .before .before .before .before .before .before .before .before .before .before .before .before .pace-on in let signalled = c .before .before .before .before .before .before .before .before .before .before .before .before .before .signal-on in c .before .before .finish .kept .1 .1 .0 ∙ (signalled .kept .1 .1 .1 .1 .1 .0 ∙ (paced .kept .1 .1 .1 .1 .1 .1 .0 ∙ l .inv .same-lines))
 
 returns : tie.Need-returns Inv-loop μ-loop
-returns c = let l = c .before .before .before .before .before .before .before .before .before .before .before .before .before .before .before .before .before .before .before .before .before .before .before .before .loop in let paced = c .before .before .before .before .before .before .before .before .before .before .before .before .before .before .before .before .before .before .before .before .pace-on in let signalled = c .before .before .before .before .before .before .before .before .before .before .before .before .before .signal-on in let x = c .before .before .before .before .before .before .before .before .before .before .before .before .before .before .before .before .before .before .before .before .before .before .before .before .before .before .before .before .before .before .before .before .before .before .before .args in
+returns c = let l = c .before .before .before .before .before .before .before .before .before .before .before .before .before .before .before .before .before .before .before .before .before .before .before .before .loop in let paced = c .before .before .before .before .before .before .before .before .before .before .before .before .before .before .before .before .before .before .before .before .pace-on in let signalled = c .before .before .before .before .before .before .before .before .before .before .before .before .before .signal-on in let x = c .before .before .before .before .before .before .before .before .before .before .before .before .before .before .before .before .before .before .before .before .before .before .before .before .before .before .before .before .before .before .before .before .before .before .before .before .before .args in
     let stopped = sym (ap stops (c .before .before .before .before .before .before .before .before .item-at .ensures)) ∙ (sym (c .before .before .before .before .before .is-last .ensures) ∙ c .before .before .before .before .if1 .taken) in
     sym (c .before .before .finish .ensures stopped _)
     ∙ ((sym (halted-still _ _ _ _ _ _ _ _ (last-item _ stopped)) ∙ (signalled .ensures .1 _ (l .tracker) (l .allocator) _ _ (l .inv .told) ∙ (paced .ensures .1 (l .core) (l .tracker) (l .allocator) ∙ l .inv .kept)))
-    ∙ start-shell _ _ (x .config) (x .start) _ _ _ _ _ _ _ _ (c .before .before .before .before .before .before .before .before .before .before .before .before .before .before .before .before .before .before .before .before .before .before .before .before .before .before .before .new4 .ensures) (c .before .before .before .before .before .before .before .before .before .before .before .before .before .before .before .before .before .before .before .before .before .before .before .before .before .before .new5 .ensures) (c .before .before .before .before .before .before .before .before .before .before .before .before .before .before .before .before .before .before .before .before .before .before .before .before .before .before .before .before .before .before .before .new .ensures) (c .before .before .before .before .before .before .before .before .before .before .before .before .before .before .before .before .before .before .before .before .before .before .before .before .before .before .before .before .before .before .controller .ensures) (c .before .before .before .before .before .before .before .before .before .before .before .before .before .before .before .before .before .before .before .before .before .before .before .before .before .before .before .before .before .new2 .ensures) (c .before .before .before .before .before .before .before .before .before .before .before .before .before .before .before .before .before .before .before .before .before .before .before .before .before .before .before .before .new3 .ensures))
+    ∙ start-shell _ _ _ _ (x .start) _ _ _ _ _ _ _ _ (c .before .before .before .before .before .before .before .before .before .before .before .before .before .before .before .before .before .before .before .before .before .before .before .before .before .before .before .before .before .before .before .before .before .settings .ensures) (c .before .before .before .before .before .before .before .before .before .before .before .before .before .before .before .before .before .before .before .before .before .before .before .before .before .before .before .before .before .before .before .before .of .ensures) refl (c .before .before .before .before .before .before .before .before .before .before .before .before .before .before .before .before .before .before .before .before .before .before .before .before .before .before .before .before .before .before .before .first-place .ensures) (c .before .before .before .before .before .before .before .before .before .before .before .before .before .before .before .before .before .before .before .before .before .before .before .before .before .before .before .new3 .ensures) (c .before .before .before .before .before .before .before .before .before .before .before .before .before .before .before .before .before .before .before .before .before .before .before .before .before .before .new4 .ensures) (c .before .before .before .before .before .before .before .before .before .before .before .before .before .before .before .before .before .before .before .before .before .before .before .before .before .before .before .before .before .before .controller .ensures) (c .before .before .before .before .before .before .before .before .before .before .before .before .before .before .before .before .before .before .before .before .before .before .before .before .before .before .before .before .before .new .ensures) (c .before .before .before .before .before .before .before .before .before .before .before .before .before .before .before .before .before .before .before .before .before .before .before .before .before .before .before .before .new2 .ensures))
 
 is-rated-requires : tie.Need-is-rated-requires Inv-loop μ-loop
 is-rated-requires c κs = search needs
@@ -153,7 +159,7 @@ loop-again-3 c = let l = c .before .before .before .before .before .before .befo
     let rate = c .before .before .before .before .before .before .before .rate-of .ensures ∙ ap (λ (n : ℕ). rateFor (at .result) n) (c .before .before .before .before .before .before .before .before .rate .ensures) in
     record {
       same-lines = c .before .before .before .before .before .share .kept .1 .1 .1 .1 .1 .1 .0 ∙ (signalled .kept .1 .1 .1 .1 .1 .0 ∙ (paced .kept .1 .1 .1 .1 .1 .1 .0 ∙ l .inv .same-lines));
-      same-pool = paced .kept .1 .1 .1 .1 .1 .0 ∙ l .inv .same-pool;
+      same-words = paced .kept .1 .1 .1 .1 .0 ∙ l .inv .same-words;
       told = l .inv .told;
       kept = rw (shared .0, shared .1 .0, shared .1 .1 .0, shared .1 .1 .1) (halted-rated _ _ _ _ _ _ _ _ _ _ _ st (sym (c .before .before .before .before .before .before .before .before .before .before .is-rated .ensures) ∙ c .before .before .before .before .before .before .before .before .before .if2 .taken) rate ∙ (signalled .ensures .1 _ (l .tracker) (l .allocator) _ _ (l .inv .told) ∙ (paced .ensures .1 (l .core) (l .tracker) (l .allocator) ∙ l .inv .kept)));
     }
@@ -168,7 +174,7 @@ loop-again-4 : tie.Need-loop-again-4 Inv-loop μ-loop
 loop-again-4 c = let l = c .before .before .before .before .before .before .before .before .before .before .before .before .before .before .before .before .before .before .before .before .before .before .loop in let paced = c .before .before .before .before .before .before .before .before .before .before .before .before .before .before .before .before .before .before .pace-on in let signalled = c .before .before .before .before .before .before .before .before .before .before .before .signal-on in
     record {
       same-lines = signalled .kept .1 .1 .1 .1 .1 .0 ∙ (paced .kept .1 .1 .1 .1 .1 .1 .0 ∙ l .inv .same-lines);
-      same-pool = paced .kept .1 .1 .1 .1 .1 .0 ∙ l .inv .same-pool;
+      same-words = paced .kept .1 .1 .1 .1 .0 ∙ l .inv .same-words;
       told = l .inv .told;
       kept = (sym (halted-still _ _ _ _ _ _ _ _ (sym (ap isRated (c .before .before .before .before .before .before .item-at .ensures)) ∙ (sym (c .before .is-rated .ensures) ∙ c .if2 .left))) ∙ (signalled .ensures .1 _ (l .tracker) (l .allocator) _ _ (l .inv .told) ∙ (paced .ensures .1 (l .core) (l .tracker) (l .allocator) ∙ l .inv .kept)));
     }
@@ -179,12 +185,14 @@ play-spec =
     (tie.spec
     Inv-loop
     μ-loop
-    new-requires
+    settings-requires
+    of-requires
+    first-place-requires
     controller-requires
+    new-requires
     new-requires-2
     new-requires-3
     new-requires-4
-    new-requires-5
     any-inflated-requires
     loop-holds
     pace-on-requires

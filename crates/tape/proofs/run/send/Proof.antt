@@ -35,9 +35,12 @@ with-pacer-requires c κs = search needs
 same-length : tie.Need-same-length
 same-length c = search needs
 
+same-length-2 : tie.Need-same-length-2
+same-length-2 c = search needs
+
 returns : tie.Need-returns
-returns c = let a = c .before .before .before .before .before .before .before .before .before .before .before .before .before .before .args in
-    rw (c .before .behind .ensures) (refl, (refl, λ bytes pool h long k t w. rw (c .with-pacer .ensures, c .before .before .before .before .put-line .ensures .0, c .before .before .before .before .put-line .ensures .1, c .before .before .before .before .before .before .fields-where .ensures, c .before .before .before .before .before .before .before .action-fields .ensures, c .before .before .before .before .before .before .before .before .send .ensures .0, c .before .before .before .before .before .before .before .before .send .ensures .1, c .before .before .before .before .before .before .before .before .before .before .pacer2 .ensures, c .before .before .before .before .before .before .before .before .before .before .before .count .ensures, c .before .before .before .before .before .before .before .before .before .before .before .before .pacer .ensures) (send-ends bytes _ (a .config) (deskOf (a .place) k (a .roster)) t w _ pool (a .pacer) (a .next) _ h long)))
+returns c = let a = c .before .before .before .before .before .before .before .before .before .before .before .before .before .before .before .before .before .args in
+    rw (c .before .behind .ensures) (refl, (refl, λ bytes pool h long k t w. rw (c .with-pacer .ensures, c .before .before .before .before .put-line .ensures .0, c .before .before .before .before .put-line .ensures .1, c .before .before .before .before .before .before .fields-where .ensures, c .before .before .before .before .before .before .before .action-fields .ensures, c .before .before .before .before .before .before .before .before .before .before .send .ensures .0, c .before .before .before .before .before .before .before .before .before .before .send .ensures .1, c .before .before .before .before .before .before .before .before .before .before .before .before .pacer2 .ensures, c .before .before .before .before .before .before .before .before .before .before .before .before .before .count .ensures, c .before .before .before .before .before .before .before .before .before .before .before .before .before .before .pacer .ensures) (send-ends bytes _ (a .config) (deskOf (a .place) k (a .roster)) t w _ pool (a .pacer) (a .next) _ h long)))
 
 pub send-spec : {M : Type 1} → statement M
 send-spec =
@@ -53,4 +56,5 @@ send-spec =
     behind-requires
     with-pacer-requires
     same-length
+    same-length-2
     returns)

@@ -54,7 +54,7 @@ unfolding withoutRow
 returns c = let l = c .before .loop in let a = c .before .before .before .args in
     let whole : List WriterInfo = a .t1 .rows ++ (blankWriter ∷ []) in
     let at : l .k ≡ min (a .place) 64 = omega arith in
-    let rows : l .self .rows ≡ lacking whole (min (a .place) 64) = sym (lacking-carried (l .self .rows) (l .k) (l .carried) (omega (arith, l .inv .1 .1 .0))) ∙ ap (λ (s : List WriterInfo). lacking s (l .k)) (l .inv .1 .1 .1 .1) ∙ ap (λ (n : ℕ). lacking whole n) at in
+    let rows : l .self .rows ≡ lacking whole (min (a .place) 64) = sym (lacking-carried (l .self .rows) (l .k) (l .carried) (l .k) (omega (arith, l .inv .0, l .inv .1 .1 .0))) ∙ ap (λ (s : List WriterInfo). lacking s (l .k)) (l .inv .1 .1 .1 .1) ∙ ap (λ (n : ℕ). lacking whole n) at in
     ap (λ (rs : List WriterInfo). tableOf rs (l .self .count)) rows ∙ ap (λ (n : ℕ). tableOf (lacking whole (min (a .place) 64)) n) (l .inv .1 .1 .1 .0)
 
 pub drop-row-spec : {M : Type 1} → statement M

@@ -7,8 +7,8 @@ use Rattle.station.proofs.station.Station.hand_in.Tie as tie
 pacer-requires : tie.Need-pacer-requires
 pacer-requires c κs = search needs
 
-hand-in-requires : tie.Need-hand-in-requires
-hand-in-requires c κs = search needs
+hand-in-words-requires : tie.Need-hand-in-words-requires
+hand-in-words-requires c κs = search needs
 
 with-pacer-requires : tie.Need-with-pacer-requires
 with-pacer-requires c κs = search needs
@@ -17,8 +17,8 @@ same-length : tie.Need-same-length
 same-length c = search needs
 
 returns : tie.Need-returns
-returns c = let a = c .before .before .before .before .before .before .before .before .before .before .before .before .before .before .args in rw (c .with-pacer .ensures, c .before .before .before .before .before .hand-in .ensures .0, c .before .before .before .before .before .hand-in .ensures .1 .0, c .before .before .before .before .before .before .before .before .pacer .ensures) (handed-parts (a .t1) _ (a .time) (a .i) (a .class) (a .key) _, c .before .before .before .before .before .hand-in .ensures .1 .1 ∙ (rw (c .before .before .before .before .before .before .before .before .pacer .ensures) (pool-parts (a .t1) _ (a .time) (a .i) (a .class) (a .key) _ _ _)))
+returns c = let a = c .before .before .before .before .before .before .before .before .before .before .before .before .before .before .args in rw (c .with-pacer .ensures, c .before .before .before .before .before .hand-in-words .ensures .0, c .before .before .before .before .before .hand-in-words .ensures .1 .0, c .before .before .before .before .before .before .before .before .pacer .ensures) (handed-parts (a .t1) _ (a .time) (a .i) (a .class) (a .key) _, c .before .before .before .before .before .hand-in-words .ensures .1 .1 ∙ (rw (c .before .before .before .before .before .before .before .before .pacer .ensures) (pool-parts (a .t1) _ (a .time) (a .i) (a .class) (a .key) _ _ _)))
 
 pub hand-in-spec : {M : Type 1} → statement M
 hand-in-spec =
-    tie.close (tie.spec pacer-requires hand-in-requires with-pacer-requires same-length returns)
+    tie.close (tie.spec pacer-requires hand-in-words-requires with-pacer-requires same-length returns)
