@@ -56,7 +56,8 @@ impl InstanceKey {
     }
 }
 
-// FNV-1a: each byte is joined by xor, then the product with the prime is taken modulo 2^64. Eight bytes go in a turn, then the rest.
+// FNV-1a: each byte is joined by xor, then the product with the prime is taken modulo 2^64. Eight bytes go in a turn, then the rest; of every
+// second product the factors are swapped.
 pub fn hash_bytes(bytes: &[u8]) -> u64
     ensures { λ r. ⌜ r ≡ fnv1a (now (bytes .entry)) ⌝ }
 {
@@ -64,8 +65,14 @@ pub fn hash_bytes(bytes: &[u8]) -> u64
     let mut hash = FNV1A_OFFSET_BASIS;
     let mut i = 0;
     while i < eights {
-        let half = join_four(hash, bytes[i], bytes[i + 1], bytes[i + 2], bytes[i + 3]);
-        hash = join_four(half, bytes[i + 4], bytes[i + 5], bytes[i + 6], bytes[i + 7]);
+        hash = join(hash, bytes[i]);
+        hash = join_swapped(hash, bytes[i + 1]);
+        hash = join(hash, bytes[i + 2]);
+        hash = join_swapped(hash, bytes[i + 3]);
+        hash = join(hash, bytes[i + 4]);
+        hash = join_swapped(hash, bytes[i + 5]);
+        hash = join(hash, bytes[i + 6]);
+        hash = join_swapped(hash, bytes[i + 7]);
         i += 8;
     }
     join_rest(hash, bytes, eights)
@@ -82,14 +89,6 @@ fn join_rest(before: u64, bytes: &[u8], from: usize) -> u64
         i += 1;
     }
     hash
-}
-
-// A hash with four bytes more; of every second product the factors are swapped.
-fn join_four(hash: u64, first: u8, second: u8, third: u8, fourth: u8) -> u64
-    ensures { λ r. ⌜ r ≡ joined (joined (joined (joined hash first) second) third) fourth ⌝ }
-{
-    let half = join_swapped(join(hash, first), second);
-    join_swapped(join(half, third), fourth)
 }
 
 // A hash with one byte more.
