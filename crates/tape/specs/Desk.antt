@@ -3,7 +3,7 @@ use Prim.Native.Nat.{ℕ, _-_, _<_, _≤_}
 use mathlib.Core.Bool.{Bool, true, false, cond, _||_}
 use mathlib.Core.List.{List, [], _∷_}
 use mathlib.Core.Path.{_≡_}
-use lib.Dec.{eqb}
+use lib.Dec.{ltb, eqb}
 use lib.ListN.{length, replicate}
 use Rattle.config.specs.Ledger.{opened}
 use Rattle.config.specs.declared.ledger.Ledger.{Ledger}
@@ -20,7 +20,7 @@ use Rattle.station.specs.declared.parts.SharedOut.{SharedOut}
 use Rattle.station.specs.declared.roster.Roster.{Roster}
 use Rattle.station.specs.declared.station.Station.{Station}
 use Rattle.station.specs.declared.station.StationConfig.{StationConfig}
-use Rattle.tape.specs.Item.{wordsOf, itemAt, wordAfter, Placed, itemsFrom}
+use Rattle.tape.specs.Item.{wordsOf, itemAt, wordAfter, Placed, itemsFrom, itemsOf}
 use Rattle.tape.specs.Run.{tapeSettings, Player, playerOf, linesOf, textOf}
 use Rattle.tape.specs.Text.{written, ended, updatesText, lineText}
 use Rattle.tape.specs.declared.item.Item.{Item}
@@ -72,7 +72,7 @@ Stands bytes word next item = (itemAt bytes word ≡ item) × (next ≡ wordAfte
 
 -- ---- what each loop goes over
 
--- whose an item is: 0 nobody's, the tape stops; 1 the clock's; 2 the pacers', a hand-in, and 7, a send attempt; 3 the core's; 4 the peers'; 5 the
+-- whose an item is: 0 nobody's, the tape stops; 1 the clock's; 2 and 7 the pacers', a hand-in and a send attempt; 3 the core's; 4 the peers'; 5 the
 -- writers'; 6 the core's and, where a rate is to be shared out, the writers'
 abbrev pub ownerOf : Item → ℕ
 ownerOf End = 0
@@ -237,3 +237,7 @@ newPlayerOver words =
 unfoldable pub handsIn : List Placed → Bool
 handsIn [] = false
 handsIn (x ∷ xs) = isHandIn (x .item) || handsIn xs
+
+-- .. or the tape is too long to be looked through for it
+abbrev pub needsWords : List ℕ → Bool
+needsWords bytes = ltb 1024 (length bytes) || handsIn (itemsOf bytes)

@@ -9,7 +9,7 @@ ghost use Rattle.config.specs.Ledger.{opened};
 ghost use Rattle.tape.specs.Item.{itemAt, stops, itemsOf};
 ghost use Rattle.tape.specs.declared.item.Item.the-variants.{HandIn, Send, Eagain, Nacks, Tos, Tick, Register, Rtt, SetRate};
 ghost use Rattle.tape.specs.Run.{Player, newPlayer, tapeSettings, advanced, fieldsWhere, actionFields, roomFor, ranTape, linesLeft};
-ghost use Rattle.tape.specs.Desk.{placeOf, Stands, Onward, isAdvance, isHandIn, isPaced, isSignal, isSample, isRated, rateFor, peerOf, Waited, PacedOn, SignalledOn, HaltedOn, RowSampledOn, SampledOn, RegisteredOn, sharedFor, sharedLines, sharedPlace, endingOf, endedWith, newPlayerOver, handsIn};
+ghost use Rattle.tape.specs.Desk.{placeOf, Stands, Onward, isAdvance, isHandIn, isPaced, isSignal, isSample, isRated, rateFor, peerOf, Waited, PacedOn, SignalledOn, HaltedOn, RowSampledOn, SampledOn, RegisteredOn, sharedFor, sharedLines, sharedPlace, endingOf, endedWith, newPlayerOver, handsIn, needsWords};
 ghost use Rattle.tape.specs.Text.{written, ended, fieldsText, lineText};
 use crate::item;
 use crate::item::Item;
@@ -717,6 +717,7 @@ fn rate_of(item: Item, rate: u32) -> u32
     }
 }
 
+// Whether an item is a hand-in.
 fn is_hand_in(item: Item) -> bool
     ensures { λ r. ⌜ r ≡ isHandIn item ⌝ }
 {
@@ -837,7 +838,7 @@ fn hands_in(tape: &[u8]) -> bool
 
 // Whether a tape may need a pacer's words, which only hand-ins do. A long tape is not looked through: to zero the words takes less.
 fn needs_words(tape: &[u8]) -> bool
-    ensures { λ r. ⌜ (r ≡ false → handsIn (itemsOf (now (tape .entry))) ≡ false) ⌝ }
+    ensures { λ r. ⌜ r ≡ needsWords (now (tape .entry)) ⌝ }
 {
     if LOOKED_THROUGH < tape.len() {
         return true;

@@ -1,5 +1,10 @@
-use mathlib.Core.Path.{_∙_}
+use mathlib.Core.Path.{sym, _∙_}
 use borrow.Author.Needs.{needs}
+use lib.Dec.{ltb}
+use lib.ListN.{length}
+use Rattle.tape.specs.Desk.{handsIn}
+use Rattle.tape.specs.Item.{itemsOf}
+use Rattle.tape.proofs.Runs.{neither}
 use Rattle.tape.proofs.Unhanded.{unhanded-ends}
 use Rattle.tape.proofs.run.play_all.Statement.{statement}
 use Rattle.tape.proofs.run.play_all.Tie as tie
@@ -29,7 +34,8 @@ same-length-2 : tie.Need-same-length-2
 same-length-2 c = search needs
 
 returns-2 : tie.Need-returns-2
-returns-2 c = c .before .before .before .play2 .ensures ∙ unhanded-ends _ _ _ _ (c .before .before .before .before .before .before .before .needs-words .ensures (c .before .before .before .before .before .before .if1 .left))
+returns-2 c = let b = c .before .before .before .before .before .before .before .before .before .before .args .tape .now in
+    c .before .before .before .play2 .ensures ∙ unhanded-ends _ _ _ _ (neither (ltb 1024 (length b)) (handsIn (itemsOf b)) (sym (c .before .before .before .before .before .before .before .needs-words .ensures) ∙ c .before .before .before .before .before .before .if1 .left) .1)
 
 pub play-all-spec : {M : Type 1} → statement M
 play-all-spec =
