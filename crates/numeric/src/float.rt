@@ -28,7 +28,7 @@ pub fn f64_of_u64(n: u64) -> f64
 }
 
 // The whole part of a rate or a share: Rust's `x as u32`, which cuts the fraction, stops at the ends of u32 and gives 0 for a NaN.
-// From 1 on, x is its digits under a leading one, shifted by what the exponent's field says.
+// From 1 on, x is its digits under a leading one, put at the top of a word and shifted down by what the exponent's field says.
 pub fn u32_of_f32(x: f32) -> u32
     ensures { λ r. ⌜ r ≡ Ieee.toUnsigned 32 x ⌝ }
 {
@@ -37,11 +37,7 @@ pub fn u32_of_f32(x: f32) -> u32
             let bits = f32::to_bits(x);
             let exponent = bits / 8388608;
             let digits = 8388608 + bits % 8388608;
-            if exponent <= 150 {
-                digits >> (150 - exponent)
-            } else {
-                digits << (exponent - 150)
-            }
+            (digits * 256) >> (158 - exponent)
         } else {
             4294967295
         }
@@ -59,11 +55,7 @@ pub fn u64_of_f64(x: f64) -> u64
             let bits = f64::to_bits(x);
             let exponent = bits / 4503599627370496;
             let digits = 4503599627370496 + bits % 4503599627370496;
-            if exponent <= 1075 {
-                digits >> (1075 - exponent)
-            } else {
-                digits << (exponent - 1075)
-            }
+            (digits * 2048) >> (1086 - exponent)
         } else {
             18446744073709551615
         }

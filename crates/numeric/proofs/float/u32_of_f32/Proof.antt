@@ -1,8 +1,9 @@
 -- The digits of the bit pattern, shifted: proofs/Truncation.antt says what they are, and what holds outside that range. Assumes nothing.
+use mathlib.Core.Path.{refl}
 use borrow.Author.Needs.{needs}
 use lib.Dec.{lit≤}
 use lib.Ieee.{binary32, ofBits}
-use Rattle.numeric.proofs.Truncation.{Cuttable, yes, no, has-pattern, right-fits, left-fits, shifted-right, shifted-left, below-one, too-large}
+use Rattle.numeric.proofs.Truncation.{Cuttable, yes, no, has-pattern, shift-below, shift-fits, shifted, below-one, too-large}
 use Rattle.numeric.proofs.float.u32_of_f32.Statement.{statement}
 use Rattle.numeric.proofs.float.u32_of_f32.Tie as tie
 
@@ -16,28 +17,25 @@ float-to-bits-bits c = has-pattern binary32 32 (lit≤ tt) _ (cuttable c)
 add-digits : tie.Need-add-digits
 add-digits c = search needs
 
-shr-result : tie.Need-shr-result
-shr-result c = right-fits binary32 32 (lit≤ tt) _ (cuttable (c .before)) (lit≤ tt)
+mul-result : tie.Need-mul-result
+mul-result c = search needs
 
 sub-result : tie.Need-sub-result
-sub-result c = search needs
+sub-result c = shift-below binary32 32 (lit≤ tt) _ (cuttable c) 8 refl
 
-shl-result : tie.Need-shl-result
-shl-result c = left-fits binary32 32 (lit≤ tt) _ (cuttable (c .before)) (lit≤ tt)
+shr-result : tie.Need-shr-result
+shr-result c = shift-fits binary32 32 (lit≤ tt) _ (cuttable c) 8 refl
 
 returns : tie.Need-returns
-returns c = shifted-right binary32 32 (lit≤ tt) _ (cuttable (c .before)) (c .if3 .taken)
+returns c = shifted binary32 32 (lit≤ tt) _ (cuttable c) 8 refl
 
 returns-2 : tie.Need-returns-2
-returns-2 c = shifted-left binary32 32 (lit≤ tt) _ (cuttable (c .before)) (c .if3 .left)
+unfolding ofBits
+returns-2 c = too-large 32 (c .before .before .args .x) (yes (c .before .if1 .taken)) (no (c .if2 .left))
 
 returns-3 : tie.Need-returns-3
 unfolding ofBits
-returns-3 c = too-large 32 (c .before .before .args .x) (yes (c .before .if1 .taken)) (no (c .if2 .left))
-
-returns-4 : tie.Need-returns-4
-unfolding ofBits
-returns-4 c = below-one 32 (c .before .args .x) (no (c .if1 .left))
+returns-3 c = below-one 32 (c .before .args .x) (no (c .if1 .left))
 
 pub u32-of-f32-spec : {M : Type 1} → statement M
-u32-of-f32-spec = tie.close (tie.spec float-to-bits-bits add-digits shr-result sub-result shl-result returns returns-2 returns-3 returns-4)
+u32-of-f32-spec = tie.close (tie.spec float-to-bits-bits add-digits mul-result sub-result shr-result returns returns-2 returns-3)
