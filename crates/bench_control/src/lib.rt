@@ -1,4 +1,6 @@
 // The benchmark's lists of calls of congestion control on its parts: a static library of its own, as bench_parts is.
+#![tactic(auto)]
+
 pub mod call;
 pub mod left;
 pub mod parts;

@@ -1,4 +1,6 @@
 // The lists of bench_control on one controller that is moved whole at each call: a static library of its own, as bench_whole is.
+#![tactic(auto)]
+
 pub mod whole;
 
 // The checksum of all answers of a list.

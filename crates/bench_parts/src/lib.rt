@@ -1,4 +1,6 @@
 // The benchmark's lists on the parts of four pacers: a static library of its own, so that what it calls is compiled into it.
+#![tactic(auto)]
+
 pub mod parts;
 
 // The checksum of all answers of a list.

@@ -1,4 +1,6 @@
 // The benchmark's lists on one pacer that is moved whole at each call: a static library of its own, as bench_parts is.
+#![tactic(auto)]
+
 pub mod whole;
 
 // The checksum of all answers of a list.

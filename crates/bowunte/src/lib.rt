@@ -1,5 +1,7 @@
 // The static library for the counter's Rust and for C: three functions on numbers and byte slices. Each returns the answer number and writes
 // its result, 8 little-endian bytes, to a lent slice, which is left as it is where the call is turned down.
+#![tactic(auto)]
+
 ghost use Rattle.std.specs.Prelude.{◌≡◌, length, set};
 ghost use Rattle.pacing.specs.Coalescing.{fnv1a};
 ghost use Rattle.control.specs.RateController.{decreased};

@@ -7,7 +7,7 @@ use crate::refusal;
 use numeric::float::is_finite_f32;
 
 // Explicit congestion notification: off, used where it is to be had, or required.
-#[derive(Drop)]
+#[derive(Clone, Copy)]
 pub enum EcnMode {
     Off,
     Opportunistic,
@@ -15,7 +15,7 @@ pub enum EcnMode {
 }
 
 // The class of a record and of a writer: urgent, normal, background.
-#[derive(Drop)]
+#[derive(Clone, Copy)]
 pub enum Priority {
     P0,
     P1,
@@ -37,7 +37,7 @@ impl Priority {
 }
 
 // The fields that ported calls read, under the Rust's names.
-#[derive(Drop)]
+#[derive(Clone, Copy)]
 pub struct CongestionConfig {
     pub enabled: bool,
     // Rates in bytes per second, and the factors of a decrease.
@@ -72,7 +72,7 @@ pub struct CongestionConfig {
 }
 
 // The answer number of checked settings and, under number 1, which of the seven checks failed, from 1.
-#[derive(Drop)]
+#[derive(Clone, Copy)]
 pub struct ConfigAnswer {
     pub answer: u8,
     pub failed: u8,

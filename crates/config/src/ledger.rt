@@ -10,7 +10,7 @@ pub const LATEST: u64 = 0x4000_0000_0000_0000;
 
 pub const MOST_CALLS: u64 = 0x100_0000_0000;
 
-#[derive(Drop)]
+#[derive(Clone, Copy)]
 pub struct Ledger {
     calls: u64,
     last: u64,

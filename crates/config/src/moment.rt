@@ -2,7 +2,7 @@
 ghost use Rattle.std.specs.Prelude.{◌≡◌};
 ghost use Rattle.config.specs.Moment.{is_known, time_or0};
 
-#[derive(Drop)]
+#[derive(Clone, Copy)]
 pub enum Moment {
     Never,
     At(u64),

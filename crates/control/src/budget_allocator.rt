@@ -17,7 +17,7 @@ const MOST_WRITERS: usize = 64;
 const MIN_PER_WRITER: u32 = 1000;
 
 // What the settings guarantee P0: a share of the rate, and bytes per second.
-#[derive(Drop)]
+#[derive(Clone, Copy)]
 pub struct AllocationConfig {
     pub p0_min_share: f32,
     pub p0_min_bps: u32,
@@ -44,7 +44,7 @@ impl AllocationConfig {
 }
 
 // A writer: its class, its weight within the class, its budget, and the one before that.
-#[derive(Drop)]
+#[derive(Clone, Copy)]
 pub struct WriterInfo {
     pub id: u64,
     pub priority: Priority,
@@ -107,7 +107,7 @@ fn taken(count: u16) -> usize
 }
 
 // Writers by class and then by id, from row 0.
-#[derive(Drop)]
+#[derive(Clone, Copy)]
 pub struct WriterTable {
     pub(crate) rows: [WriterInfo; 64],
     pub(crate) count: u16,
@@ -285,14 +285,14 @@ impl WriterTable {
 }
 
 // What a writer may send in bytes per second, and whether there is such a writer.
-#[derive(Drop)]
+#[derive(Clone, Copy)]
 pub struct Budget {
     pub known: bool,
     pub bps: u32,
 }
 
 // The weights of each class's writers together.
-#[derive(Drop)]
+#[derive(Clone, Copy)]
 pub struct ClassWeights {
     pub p0: f32,
     pub p1: f32,
@@ -300,14 +300,14 @@ pub struct ClassWeights {
 }
 
 // What each class has to share out, in bytes per second.
-#[derive(Drop)]
+#[derive(Clone, Copy)]
 pub struct ClassBudgets {
     pub p0: u32,
     pub p1: u32,
     pub p2: u32,
 }
 
-#[derive(Drop)]
+#[derive(Clone, Copy)]
 pub struct Shares {
     pub weights: ClassWeights,
     pub budgets: ClassBudgets,
@@ -505,7 +505,7 @@ impl WriterTable {
     }
 }
 
-#[derive(Drop)]
+#[derive(Clone, Copy)]
 pub struct AllocationStats {
     pub reallocations: u64,
     pub writers_registered: u64,
@@ -513,7 +513,7 @@ pub struct AllocationStats {
     pub total_distributed_bps: u64,
 }
 
-#[derive(Drop)]
+#[derive(Clone, Copy)]
 pub struct BudgetAllocator {
     pub(crate) table: WriterTable,
     pub(crate) global_budget_bps: u32,
@@ -521,7 +521,7 @@ pub struct BudgetAllocator {
 }
 
 // An allocator, and whether the writer was there.
-#[derive(Drop)]
+#[derive(Clone, Copy)]
 pub struct Unregistered {
     pub allocator: BudgetAllocator,
     pub found: bool,
@@ -633,7 +633,7 @@ impl BudgetAllocator {
 }
 
 // An allocator used alone, with its own call count; it takes no times. The public calls, which turn down by number.
-#[derive(Drop)]
+#[derive(Clone, Copy)]
 pub struct BudgetAllocatorAlone {
     ledger: Ledger,
     config: AllocationConfig,
@@ -641,7 +641,7 @@ pub struct BudgetAllocatorAlone {
 }
 
 // The answer number, whether a writer that was to go was there, and what a call leaves.
-#[derive(Drop)]
+#[derive(Clone, Copy)]
 pub struct AllocatorAnswer {
     pub answer: u8,
     pub found: bool,

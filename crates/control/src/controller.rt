@@ -22,7 +22,7 @@ const NACK_WINDOW: u64 = 1000000000;
 const DEFAULT_RTT_MS: f32 = 100.0;
 
 // What the settings say to the controller and its parts.
-#[derive(Drop)]
+#[derive(Clone, Copy)]
 pub struct ControllerConfig {
     pub enabled: bool,
     pub ecn: bool,
@@ -71,14 +71,14 @@ impl ControllerConfig {
 }
 
 // The NACKs of the current window, and when it began.
-#[derive(Drop)]
+#[derive(Clone, Copy)]
 pub struct NackWindow {
     pub count: u32,
     pub start: u64,
 }
 
 // All but the tables: what the signals and a tick that changes nothing touch.
-#[derive(Drop)]
+#[derive(Clone, Copy)]
 pub struct ControllerCore {
     pub(crate) scorer: CongestionScorer,
     pub(crate) rate_controller: RateController,
@@ -89,14 +89,14 @@ pub struct ControllerCore {
 }
 
 // A core, and whether congestion is signalled.
-#[derive(Drop)]
+#[derive(Clone, Copy)]
 pub struct Marked {
     pub core: ControllerCore,
     pub signal: bool,
 }
 
 // A core, and whether its rate changed.
-#[derive(Drop)]
+#[derive(Clone, Copy)]
 pub struct CoreTicked {
     pub core: ControllerCore,
     pub changed: bool,
@@ -318,7 +318,7 @@ impl ControllerCore {
 }
 
 // The core and the two tables.
-#[derive(Drop)]
+#[derive(Clone, Copy)]
 pub struct CongestionController {
     pub(crate) core: ControllerCore,
     pub(crate) tracker: PeerRttTracker,
@@ -326,7 +326,7 @@ pub struct CongestionController {
 }
 
 // A controller, and whether its rate changed: each writer's row then tells its update.
-#[derive(Drop)]
+#[derive(Clone, Copy)]
 pub struct ControllerTicked {
     pub controller: CongestionController,
     pub changed: bool,
@@ -447,7 +447,7 @@ impl CongestionController {
 }
 
 // A controller used alone, with its own call count and last time: the public calls, which turn down by number.
-#[derive(Drop)]
+#[derive(Clone, Copy)]
 pub struct CongestionControllerAlone {
     ledger: Ledger,
     config: ControllerConfig,
@@ -456,7 +456,7 @@ pub struct CongestionControllerAlone {
 
 // The answer number and what a call leaves. `told`: of a TOS byte, whether congestion is signalled; of a tick or a rate that is set, whether
 // the writers' rows tell updates; else false.
-#[derive(Drop)]
+#[derive(Clone, Copy)]
 pub struct ControllerAnswer {
     pub answer: u8,
     pub told: bool,

@@ -1,4 +1,6 @@
 // Congestion control: the score of the signals, the rate that it steers, the writers' shares of that rate, and the controller over them.
+#![tactic(auto)]
+
 pub mod budget_allocator;
 pub mod controller;
 pub mod metrics;

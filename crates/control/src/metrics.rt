@@ -4,7 +4,7 @@ ghost use Rattle.control.specs.Metrics.{no_metrics, rate_recorded, change_record
 
 use numeric::integer::increment;
 
-#[derive(Drop)]
+#[derive(Clone, Copy)]
 pub struct CongestionMetrics {
     pub current_rate_bps: u32,
     pub eagain_total: u64,

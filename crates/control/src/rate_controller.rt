@@ -14,7 +14,7 @@ use numeric::integer::{
 };
 
 // The range of the rate in bytes per second, the step of an increase and the factors of a decrease.
-#[derive(Drop)]
+#[derive(Clone, Copy)]
 pub struct RateParams {
     pub min_rate: u32,
     pub max_rate: u32,
@@ -24,7 +24,7 @@ pub struct RateParams {
 }
 
 // Changes of the rate, the bytes per second that they took and gave, and the rates reached.
-#[derive(Drop)]
+#[derive(Clone, Copy)]
 pub struct RateControllerMetrics {
     pub increases: u64,
     pub decreases_soft: u64,
@@ -35,7 +35,7 @@ pub struct RateControllerMetrics {
     pub min_rate_reached: u32,
 }
 
-#[derive(Drop)]
+#[derive(Clone, Copy)]
 pub struct RateController {
     pub(crate) current_rate: u32,
     pub(crate) last_change: u64,
@@ -43,7 +43,7 @@ pub struct RateController {
 }
 
 // A controller, and whether its rate changed.
-#[derive(Drop)]
+#[derive(Clone, Copy)]
 pub struct Applied {
     pub controller: RateController,
     pub changed: bool,
@@ -249,7 +249,7 @@ impl RateController {
 }
 
 // A rate controller used alone, with its own call count and last time: the public calls, which turn down by number.
-#[derive(Drop)]
+#[derive(Clone, Copy)]
 pub struct RateControllerAlone {
     ledger: Ledger,
     params: RateParams,
@@ -257,7 +257,7 @@ pub struct RateControllerAlone {
 }
 
 // The answer number, whether the rate changed (false where the call is turned down) and what a call leaves.
-#[derive(Drop)]
+#[derive(Clone, Copy)]
 pub struct RateAnswer {
     pub answer: u8,
     pub changed: bool,

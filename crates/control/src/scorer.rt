@@ -10,14 +10,14 @@ use numeric::float::{clamp_f32, f32_of_u8, f32_of_u32};
 use numeric::integer::{increment, increment_u32, saturating_add, saturating_sub};
 
 // Stable: the rate may grow. Congested: it was lowered, and waits for recovery.
-#[derive(Drop)]
+#[derive(Clone, Copy)]
 pub enum ScorerState {
     Stable,
     Congested,
 }
 
 // What the scorer asks of the rate.
-#[derive(Drop)]
+#[derive(Clone, Copy)]
 pub enum CongestionAction {
     None,
     Increase,
@@ -50,7 +50,7 @@ impl CongestionAction {
 }
 
 // What the settings say of the score; durations in nanoseconds.
-#[derive(Drop)]
+#[derive(Clone, Copy)]
 pub struct ScorerConfig {
     pub tick_interval: u64,
     pub decay: f32,
@@ -110,7 +110,7 @@ impl ScorerConfig {
 }
 
 // The signals since the last tick.
-#[derive(Drop)]
+#[derive(Clone, Copy)]
 pub struct PendingSignals {
     pub eagain_count: u32,
     pub rtt_inflated: bool,
@@ -161,14 +161,14 @@ impl PendingSignals {
 }
 
 // Signals in all, by kind.
-#[derive(Drop)]
+#[derive(Clone, Copy)]
 pub struct SignalCounts {
     pub eagain_signals: u64,
     pub rtt_signals: u64,
     pub nack_signals: u64,
 }
 
-#[derive(Drop)]
+#[derive(Clone, Copy)]
 pub struct ScorerMetrics {
     pub ticks: u64,
     pub congestion_events: u64,
@@ -224,14 +224,14 @@ impl ScorerMetrics {
 }
 
 // The state, the end of the time without new increases or recovery, and since when it is stable.
-#[derive(Drop)]
+#[derive(Clone, Copy)]
 pub struct Phase {
     pub state: ScorerState,
     pub cooldown_until: Moment,
     pub stable_since: Moment,
 }
 
-#[derive(Drop)]
+#[derive(Clone, Copy)]
 pub struct CongestionScorer {
     pub(crate) score: f32,
     pub(crate) last_tick: u64,
@@ -242,7 +242,7 @@ pub struct CongestionScorer {
 }
 
 // A scorer after a tick, and what it asks for.
-#[derive(Drop)]
+#[derive(Clone, Copy)]
 pub struct Ticked {
     pub scorer: CongestionScorer,
     pub action: CongestionAction,
@@ -514,7 +514,7 @@ impl Phase {
 }
 
 // A scorer used alone, with its own call count and last time: the public calls, which turn down by number.
-#[derive(Drop)]
+#[derive(Clone, Copy)]
 pub struct CongestionScorerAlone {
     ledger: Ledger,
     config: ScorerConfig,
@@ -522,7 +522,7 @@ pub struct CongestionScorerAlone {
 }
 
 // The answer number, what the scorer asks for (nothing where the call is turned down) and what a call leaves.
-#[derive(Drop)]
+#[derive(Clone, Copy)]
 pub struct ScorerAnswer {
     pub answer: u8,
     pub action: CongestionAction,

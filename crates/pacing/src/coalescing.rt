@@ -17,7 +17,7 @@ const FNV1A_OFFSET_BASIS: u64 = 0xcbf2_9ce4_8422_2325;
 const FNV1A_PRIME: u64 = 0x0100_0000_01b3;
 
 // Two hashes are the key: of the topic's name and of the instance's key bytes.
-#[derive(Drop)]
+#[derive(Clone, Copy)]
 pub struct InstanceKey {
     pub topic_hash: u64,
     pub key_hash: u64,
@@ -115,14 +115,14 @@ const DROPPED: usize = 513;
 const TOTAL_BYTES: usize = 514;
 
 // What decides: the ring and the queue's own sequence numbers. Entries and counts lie in lent words.
-#[derive(Drop)]
+#[derive(Clone, Copy)]
 pub struct CoalescingQueue {
     pub(crate) ring: Ring,
     pub(crate) next_sequence: u64,
 }
 
 // The oldest sample that waits, if one does: its slot and its entry.
-#[derive(Drop)]
+#[derive(Clone, Copy)]
 pub enum Front {
     Nothing,
     Sample {
@@ -135,7 +135,7 @@ pub enum Front {
 }
 
 // The Rust's statistics, without the fill ratio.
-#[derive(Drop)]
+#[derive(Clone, Copy)]
 pub struct CoalescingStats {
     pub instances: u16,
     pub bytes: u64,
@@ -143,7 +143,7 @@ pub struct CoalescingStats {
     pub dropped: u64,
 }
 
-#[derive(Drop)]
+#[derive(Clone, Copy)]
 pub struct Inserted {
     pub queue: CoalescingQueue,
     pub kept: Kept,
@@ -312,7 +312,7 @@ pub(crate) fn note_insert(words: &mut [u64], at: u32, kept: Kept, length: u64)
 }
 
 // A queue used alone, with its own call count: the public calls, which turn down by number. The Rust's queue is steered by no time, so none is taken.
-#[derive(Drop)]
+#[derive(Clone, Copy)]
 pub struct CoalescingQueueAlone {
     ledger: Ledger,
     queue: CoalescingQueue,
@@ -320,14 +320,14 @@ pub struct CoalescingQueueAlone {
 }
 
 // The answer number and what a call leaves.
-#[derive(Drop)]
+#[derive(Clone, Copy)]
 pub struct CoalescingQueueLeft {
     pub answer: u8,
     pub alone: CoalescingQueueAlone,
 }
 
 // The same with the sample that was popped.
-#[derive(Drop)]
+#[derive(Clone, Copy)]
 pub struct CoalescingQueuePopped {
     pub answer: u8,
     pub front: Front,
@@ -335,14 +335,14 @@ pub struct CoalescingQueuePopped {
 }
 
 // The parts of a queue that a call changes by value, with its answer.
-#[derive(Drop)]
+#[derive(Clone, Copy)]
 struct QueueInserted {
     answer: u8,
     ledger: Ledger,
     queue: CoalescingQueue,
 }
 
-#[derive(Drop)]
+#[derive(Clone, Copy)]
 struct QueuePopped {
     answer: u8,
     ledger: Ledger,

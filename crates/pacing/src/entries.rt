@@ -10,7 +10,7 @@ use config::config::Priority;
 pub const PACER_WORDS: usize = 1805;
 
 // What is kept of a waiting record; P0 and P1 have no key, which is then zero.
-#[derive(Drop)]
+#[derive(Clone, Copy)]
 pub struct Entry {
     pub sequence: u64,
     pub length: u64,

@@ -1,4 +1,6 @@
 // Paced sending: the token bucket, the queues in a lent pool, the coalescing of background records, and the writer pacer.
+#![tactic(auto)]
+
 pub mod coalescing;
 pub mod entries;
 pub mod pool;

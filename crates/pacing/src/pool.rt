@@ -8,7 +8,7 @@ use config::config::{CongestionConfig, Priority};
 pub const SLOT: usize = 1472;
 
 // How many slots each queue of a pacer has.
-#[derive(Drop)]
+#[derive(Clone, Copy)]
 pub struct Limits {
     pub(crate) p0: u16,
     pub(crate) p1: u16,

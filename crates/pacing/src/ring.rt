@@ -5,7 +5,7 @@ ghost use Rattle.pacing.specs.Ring.{is_full, fate_number, new_ring, slot_at, pop
 use config::refusal;
 
 // The head has twice the width it needs, so that a ring is eight bytes and is moved at once.
-#[derive(Drop)]
+#[derive(Clone, Copy)]
 pub struct Ring {
     pub(crate) head: u32,
     pub(crate) count: u16,
@@ -13,7 +13,7 @@ pub struct Ring {
 }
 
 // What became of a record handed in: refused, at the tail, at the tail with the oldest pushed out, or in the place of the one with its key.
-#[derive(Drop)]
+#[derive(Clone, Copy)]
 pub enum Fate {
     Full,
     Joined,
@@ -47,14 +47,14 @@ impl Fate {
 }
 
 // A record's fate, the slot that is its own (0 where it is refused) and the sequence number that it used up.
-#[derive(Drop)]
+#[derive(Clone, Copy)]
 pub struct Kept {
     pub fate: Fate,
     pub slot: u16,
     pub sequence: u64,
 }
 
-#[derive(Drop)]
+#[derive(Clone, Copy)]
 pub struct Placed {
     pub ring: Ring,
     pub kept: Kept,

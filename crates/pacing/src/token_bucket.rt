@@ -7,7 +7,7 @@ ghost use Rattle.pacing.specs.TokenBucketAlone.{making_checks, byte_checks, rate
 use config::ledger::Ledger;
 use config::refusal;
 
-#[derive(Drop)]
+#[derive(Clone, Copy)]
 pub struct TokenBucket {
     pub(crate) tokens: u64,
     pub(crate) capacity: u64,
@@ -16,14 +16,14 @@ pub struct TokenBucket {
 }
 
 // A bucket, and whether the tokens were there and were taken.
-#[derive(Drop)]
+#[derive(Clone, Copy)]
 pub struct Tried {
     pub bucket: TokenBucket,
     pub taken: bool,
 }
 
 // A bucket, and the nanoseconds until the tokens are there.
-#[derive(Drop)]
+#[derive(Clone, Copy)]
 pub struct Told {
     pub bucket: TokenBucket,
     pub wait: u64,
@@ -171,21 +171,21 @@ impl TokenBucket {
 }
 
 // A bucket used alone, with its own call count and last time: the public calls, which turn down by number.
-#[derive(Drop)]
+#[derive(Clone, Copy)]
 pub struct TokenBucketAlone {
     ledger: Ledger,
     bucket: TokenBucket,
 }
 
 // The answer number and what a call leaves.
-#[derive(Drop)]
+#[derive(Clone, Copy)]
 pub struct TokenBucketLeft {
     pub answer: u8,
     pub alone: TokenBucketAlone,
 }
 
 // The same with whether the tokens were taken; false where the call is turned down.
-#[derive(Drop)]
+#[derive(Clone, Copy)]
 pub struct TokenBucketTried {
     pub answer: u8,
     pub taken: bool,
@@ -193,7 +193,7 @@ pub struct TokenBucketTried {
 }
 
 // The same with the nanoseconds to wait; 0 where the call is turned down.
-#[derive(Drop)]
+#[derive(Clone, Copy)]
 pub struct TokenBucketTold {
     pub answer: u8,
     pub wait: u64,

@@ -30,7 +30,7 @@ const RATE_LIMITED: u8 = 11;
 const FORCE_SENDS_P0: u8 = 12;
 
 // What a pacer reads of the settings.
-#[derive(Drop)]
+#[derive(Clone, Copy)]
 pub struct PacerConfig {
     pub(crate) enabled: bool,
     pub(crate) min_rate_bps: u32,
@@ -38,7 +38,7 @@ pub struct PacerConfig {
     pub(crate) limits: Limits,
 }
 
-#[derive(Drop)]
+#[derive(Clone, Copy)]
 pub struct Queues {
     pub(crate) p0: Ring,
     pub(crate) p1: Ring,
@@ -46,14 +46,14 @@ pub struct Queues {
 }
 
 // What decides a pacer's answers: small, and by value.
-#[derive(Drop)]
+#[derive(Clone, Copy)]
 pub struct PacerCore {
     pub(crate) queues: Queues,
     pub(crate) next_sequence: u64,
     pub(crate) tokens: TokenBucket,
 }
 
-#[derive(Drop)]
+#[derive(Clone, Copy)]
 pub struct Enqueued {
     pub core: PacerCore,
     pub kept: Kept,
@@ -61,7 +61,7 @@ pub struct Enqueued {
 
 // What a send attempt comes to: a record of a class, its slot, sequence and length, and whether it went without tokens;
 // nothing that waits; or the nanoseconds to wait for the first that does.
-#[derive(Drop)]
+#[derive(Clone, Copy)]
 pub enum SendAction {
     Send {
         class: Priority,
@@ -93,13 +93,13 @@ impl SendAction {
     }
 }
 
-#[derive(Drop)]
+#[derive(Clone, Copy)]
 pub struct Attempt {
     pub core: PacerCore,
     pub action: SendAction,
 }
 
-#[derive(Drop)]
+#[derive(Clone, Copy)]
 pub struct WriterPacerMetrics {
     pub enqueued_p0: u64,
     pub enqueued_p1: u64,
@@ -657,14 +657,14 @@ fn write(
 }
 
 // The parts of a pacer that a call changes by value, with its answer.
-#[derive(Drop)]
+#[derive(Clone, Copy)]
 pub struct Handed {
     pub ledger: Ledger,
     pub core: PacerCore,
     pub answer: u8,
 }
 
-#[derive(Drop)]
+#[derive(Clone, Copy)]
 pub struct SendTried {
     pub ledger: Ledger,
     pub core: PacerCore,
@@ -823,7 +823,7 @@ fn check_making(config: CongestionConfig, time: u64, rate_bps: u32) -> u8
 }
 
 // A pacer used alone, with its own call count and last time: the public calls, which turn down by number.
-#[derive(Drop)]
+#[derive(Clone, Copy)]
 pub struct WriterPacerAlone {
     ledger: Ledger,
     config: PacerConfig,
@@ -832,14 +832,14 @@ pub struct WriterPacerAlone {
 }
 
 // The answer number and what a call leaves.
-#[derive(Drop)]
+#[derive(Clone, Copy)]
 pub struct WriterPacerLeft {
     pub answer: u8,
     pub alone: WriterPacerAlone,
 }
 
 // The same with what a send attempt came to; `Empty` where it is turned down.
-#[derive(Drop)]
+#[derive(Clone, Copy)]
 pub struct WriterPacerSent {
     pub answer: u8,
     pub action: SendAction,

@@ -26,7 +26,7 @@ const ALLOCATOR_SHOW: u64 = 198;
 const PLACES: u64 = 64;
 
 // The allocator that an operation leaves, and its line.
-#[derive(Drop)]
+#[derive(Clone, Copy)]
 pub(crate) struct AllocatorPlayed {
     pub(crate) alone: BudgetAllocatorAlone,
     pub(crate) line: Line,

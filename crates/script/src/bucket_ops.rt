@@ -20,7 +20,7 @@ const TIME_UNTIL_AVAILABLE: u64 = 102;
 const BUCKET_CALLS: u64 = 103;
 
 // The bucket that an operation leaves, and its line.
-#[derive(Drop)]
+#[derive(Clone, Copy)]
 pub(crate) struct BucketPlayed {
     pub(crate) alone: TokenBucketAlone,
     pub(crate) line: Line,

@@ -34,14 +34,14 @@ const MOST_JOINED: u64 = 32;
 pub(crate) const POOL_BYTES: usize = 1130496;
 
 // How many bytes of the buffer are used, and how many of the pool are lent.
-#[derive(Drop)]
+#[derive(Clone, Copy)]
 pub(crate) struct Spans {
     pub(crate) used: usize,
     pub(crate) lent: usize,
 }
 
 // The spans that an operation leaves, and its line.
-#[derive(Drop)]
+#[derive(Clone, Copy)]
 pub(crate) struct BytesPlayed {
     pub(crate) spans: Spans,
     pub(crate) line: Line,

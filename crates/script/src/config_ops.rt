@@ -12,7 +12,7 @@ const CONFIG_CHECK: u64 = 34;
 const FIELDS: u64 = 25;
 
 // The settings that an operation leaves, and its line.
-#[derive(Drop)]
+#[derive(Clone, Copy)]
 pub(crate) struct ConfigPlayed {
     pub(crate) config: CongestionConfig,
     pub(crate) line: Line,

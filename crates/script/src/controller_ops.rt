@@ -35,7 +35,7 @@ const CONTROLLER_CALLS: u64 = 217;
 const FIELDS: usize = 54;
 
 // The controller that an operation leaves, and its line.
-#[derive(Drop)]
+#[derive(Clone, Copy)]
 pub(crate) struct ControllerPlayed {
     pub(crate) alone: CongestionControllerAlone,
     pub(crate) line: Line,

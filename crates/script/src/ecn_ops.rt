@@ -12,7 +12,7 @@ const PROCESS_CE: u64 = 50;
 const ECN_CALLS: u64 = 51;
 
 // The processor that an operation leaves, and its line.
-#[derive(Drop)]
+#[derive(Clone, Copy)]
 pub(crate) struct EcnPlayed {
     pub(crate) alone: EcnProcessorAlone,
     pub(crate) line: Line,

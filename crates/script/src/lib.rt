@@ -1,4 +1,6 @@
 // Plays a script of calls on the modules: differential/README.md has the records, the operations and the lines.
+#![tactic(auto)]
+
 mod allocator_ops;
 mod bucket_ops;
 mod coalescing_ops;

@@ -11,7 +11,7 @@ const MOST_NUMBERS: usize = 59;
 // Room for the lines of a batch: a line of 59 numbers of 20 digits, with the spaces and its end, has 1,239 bytes.
 pub(crate) const LINES_BYTES: usize = BATCH_RECORDS * 1280;
 
-#[derive(Drop)]
+#[derive(Clone, Copy)]
 pub(crate) struct Line {
     numbers: [u64; MOST_NUMBERS],
     count: usize,

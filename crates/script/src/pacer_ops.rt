@@ -25,7 +25,7 @@ const PACER_SET_RATE: u64 = 148;
 const PACER_CALLS: u64 = 149;
 
 // The pacer that an operation leaves, and its line.
-#[derive(Drop)]
+#[derive(Clone, Copy)]
 pub(crate) struct PacerPlayed {
     pub(crate) alone: WriterPacerAlone,
     pub(crate) line: Line,

@@ -18,7 +18,7 @@ const PEERS_SHOW: u64 = 83;
 const PLACES: u64 = 64;
 
 // The tracker that an operation leaves, and its line.
-#[derive(Drop)]
+#[derive(Clone, Copy)]
 pub(crate) struct PeersPlayed {
     pub(crate) alone: PeerRttTrackerAlone,
     pub(crate) line: Line,

@@ -49,7 +49,7 @@ const STATION: u64 = 14;
 
 // The byte buffer and the pool are lent beside them. The queue, the pacer and the station are large: each is moved by its own
 // operations only.
-#[derive(Drop)]
+#[derive(Clone, Copy)]
 pub(crate) struct Modules {
     small: SmallModules,
     queue: CoalescingQueueAlone,
@@ -58,7 +58,7 @@ pub(crate) struct Modules {
 }
 
 // The other modules, and how much of the byte buffer and of the pool is in use.
-#[derive(Drop)]
+#[derive(Clone, Copy)]
 struct SmallModules {
     config: CongestionConfig,
     ecn: EcnProcessorAlone,
@@ -73,14 +73,14 @@ struct SmallModules {
 }
 
 // What a record leaves, and the line that answers it.
-#[derive(Drop)]
+#[derive(Clone, Copy)]
 struct Played {
     modules: SmallModules,
     line: Line,
 }
 
 // What a batch leaves, and how many bytes its lines have.
-#[derive(Drop)]
+#[derive(Clone, Copy)]
 pub(crate) struct BatchPlayed {
     pub(crate) modules: Modules,
     pub(crate) written: usize,

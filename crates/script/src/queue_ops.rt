@@ -29,7 +29,7 @@ const DROPPED_COUNT: usize = 513;
 const TOTAL_BYTES: usize = 514;
 
 // The queue that an operation leaves, and its line.
-#[derive(Drop)]
+#[derive(Clone, Copy)]
 pub(crate) struct QueuePlayed {
     pub(crate) alone: CoalescingQueueAlone,
     pub(crate) line: Line,

@@ -13,7 +13,7 @@ const RATE_SET_RATE: u64 = 162;
 const RATE_CALLS: u64 = 163;
 
 // The rate controller that an operation leaves, and its line.
-#[derive(Drop)]
+#[derive(Clone, Copy)]
 pub(crate) struct RatePlayed {
     pub(crate) alone: RateControllerAlone,
     pub(crate) line: Line,

@@ -12,7 +12,7 @@ const RTT_CALLS: u64 = 66;
 const RTT_UPDATE_LENT: u64 = 67;
 
 // The estimator that an operation leaves, and its line.
-#[derive(Drop)]
+#[derive(Clone, Copy)]
 pub(crate) struct RttPlayed {
     pub(crate) alone: RttEstimatorAlone,
     pub(crate) line: Line,

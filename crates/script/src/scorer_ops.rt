@@ -25,7 +25,7 @@ const SCORER_CALLS: u64 = 182;
 const FIELDS: usize = 22;
 
 // The scorer that an operation leaves, and its line.
-#[derive(Drop)]
+#[derive(Clone, Copy)]
 pub(crate) struct ScorerPlayed {
     pub(crate) alone: CongestionScorerAlone,
     pub(crate) line: Line,

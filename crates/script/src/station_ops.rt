@@ -48,7 +48,7 @@ const FIELDS: usize = 43;
 const PLACES: u64 = 4;
 
 // The station that an operation leaves, and its line.
-#[derive(Drop)]
+#[derive(Clone, Copy)]
 pub(crate) struct StationPlayed {
     pub(crate) station: Station,
     pub(crate) line: Line,

@@ -11,7 +11,7 @@ const RECORD_BYTES: usize = RECORD_WORDS * 8;
 pub(crate) const BATCH_BYTES: usize = BATCH_RECORDS * RECORD_BYTES;
 
 // The operation and its arguments.
-#[derive(Drop)]
+#[derive(Clone, Copy)]
 pub(crate) struct Record {
     pub(crate) operation: u64,
     pub(crate) a: u64,

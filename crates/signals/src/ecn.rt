@@ -6,7 +6,7 @@ ghost use Rattle.signals.specs.EcnAlone.{new_alone, resumed_alone, answered_by, 
 use config::ledger::Ledger;
 
 // The two low bits of the TOS byte (RFC 3168, section 5).
-#[derive(Drop)]
+#[derive(Clone, Copy)]
 pub enum EcnCodepoint {
     NotEct,
     Ect1,
@@ -15,7 +15,7 @@ pub enum EcnCodepoint {
 }
 
 // Packets received, by codepoint, and the windows or marks that were signalled.
-#[derive(Drop)]
+#[derive(Clone, Copy)]
 pub struct EcnStats {
     pub packets_received: u64,
     pub ect0_received: u64,
@@ -26,7 +26,7 @@ pub struct EcnStats {
 }
 
 // The counts, and the marks and packets of the current window.
-#[derive(Drop)]
+#[derive(Clone, Copy)]
 pub struct EcnProcessor {
     pub(crate) stats: EcnStats,
     pub(crate) ce_in_window: u32,
@@ -34,7 +34,7 @@ pub struct EcnProcessor {
 }
 
 // A processor, and whether congestion is to be signalled.
-#[derive(Drop)]
+#[derive(Clone, Copy)]
 pub struct Processed {
     pub processor: EcnProcessor,
     pub signal: bool,
@@ -284,14 +284,14 @@ impl EcnProcessor {
 }
 
 // A processor used alone, with its own call count: the public calls, which turn down by number.
-#[derive(Drop)]
+#[derive(Clone, Copy)]
 pub struct EcnProcessorAlone {
     ledger: Ledger,
     processor: EcnProcessor,
 }
 
 // The answer number, the signal (false where the call is turned down) and what a call leaves.
-#[derive(Drop)]
+#[derive(Clone, Copy)]
 pub struct EcnAnswer {
     pub answer: u8,
     pub signal: bool,

@@ -12,7 +12,7 @@ use config::refusal;
 const MOST_PEERS: usize = 64;
 
 // Milliseconds: the average, the least sample and the variance; how many samples came, and when the last did.
-#[derive(Drop)]
+#[derive(Clone, Copy)]
 pub struct RttEstimator {
     pub(crate) rtt_ms: f32,
     pub(crate) rtt_min_ms: f32,
@@ -127,7 +127,7 @@ impl RttEstimator {
 }
 
 // Up to 64 peers in the order they were entered.
-#[derive(Drop)]
+#[derive(Clone, Copy)]
 pub struct PeerRttTracker {
     pub ids: [u32; 64],
     pub peers: [RttEstimator; 64],
@@ -136,7 +136,7 @@ pub struct PeerRttTracker {
 }
 
 // One place of a tracker, its count and its default: all that a sample reads once its place is known, and more than it changes.
-#[derive(Drop)]
+#[derive(Clone, Copy)]
 pub struct PeerRow {
     pub id: u32,
     pub estimator: RttEstimator,
@@ -145,14 +145,14 @@ pub struct PeerRow {
 }
 
 // A row after a sample, and whether the tracker was full for the peer, and so stays.
-#[derive(Drop)]
+#[derive(Clone, Copy)]
 pub struct RowEntered {
     pub row: PeerRow,
     pub full: bool,
 }
 
 // A tracker after a sample, and whether it was full for the peer, and so stays.
-#[derive(Drop)]
+#[derive(Clone, Copy)]
 pub struct Entered {
     pub tracker: PeerRttTracker,
     pub full: bool,
@@ -346,27 +346,27 @@ impl PeerRttTracker {
 }
 
 // An estimator used alone, with its own call count and last time: the public calls, which turn down by number.
-#[derive(Drop)]
+#[derive(Clone, Copy)]
 pub struct RttEstimatorAlone {
     ledger: Ledger,
     estimator: RttEstimator,
 }
 
 // The answer number and what a call leaves.
-#[derive(Drop)]
+#[derive(Clone, Copy)]
 pub struct RttAnswer {
     pub answer: u8,
     pub alone: RttEstimatorAlone,
 }
 
 // A tracker used alone likewise.
-#[derive(Drop)]
+#[derive(Clone, Copy)]
 pub struct PeerRttTrackerAlone {
     ledger: Ledger,
     tracker: PeerRttTracker,
 }
 
-#[derive(Drop)]
+#[derive(Clone, Copy)]
 pub struct PeerRttAnswer {
     pub answer: u8,
     pub alone: PeerRttTrackerAlone,

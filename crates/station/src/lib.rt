@@ -1,3 +1,5 @@
+#![tactic(auto)]
+
 pub mod parts;
 pub mod roster;
 pub mod station;

@@ -24,7 +24,7 @@ pub const STATION_WORDS: usize = 7220;
 
 // What a signal, a tick or a rate setting leaves of a ledger and a core; `told`: of a TOS byte whether congestion is signalled, of a tick
 // or a rate setting whether the rate is to be shared out.
-#[derive(Drop)]
+#[derive(Clone, Copy)]
 pub struct CoreLeft {
     pub answer: u8,
     pub told: bool,
@@ -33,7 +33,7 @@ pub struct CoreLeft {
 }
 
 // What a sample leaves.
-#[derive(Drop)]
+#[derive(Clone, Copy)]
 pub struct TrackerLeft {
     pub answer: u8,
     pub ledger: Ledger,
@@ -41,7 +41,7 @@ pub struct TrackerLeft {
 }
 
 // What a sample leaves of the row that it goes to.
-#[derive(Drop)]
+#[derive(Clone, Copy)]
 pub struct RowLeft {
     pub answer: u8,
     pub ledger: Ledger,
@@ -49,7 +49,7 @@ pub struct RowLeft {
 }
 
 // What a register leaves.
-#[derive(Drop)]
+#[derive(Clone, Copy)]
 pub struct RosterLeft {
     pub answer: u8,
     pub ledger: Ledger,
@@ -58,7 +58,7 @@ pub struct RosterLeft {
 }
 
 // A rate shared out: the writers' rows, and their pacers.
-#[derive(Drop)]
+#[derive(Clone, Copy)]
 pub struct SharedOut {
     pub allocator: BudgetAllocator,
     pub roster: Roster,

@@ -9,14 +9,14 @@ use pacing::writer_pacer::{PacerConfig, PacerCore};
 pub const MOST_WRITERS: usize = 4;
 
 // A registered writer and its pacer.
-#[derive(Drop)]
+#[derive(Clone, Copy)]
 pub struct Writer {
     pub(crate) id: u64,
     pub(crate) pacer: PacerCore,
 }
 
 // The writers, numbered from 0 as registered.
-#[derive(Drop)]
+#[derive(Clone, Copy)]
 pub struct Roster {
     pub(crate) writers: [Writer; MOST_WRITERS],
     pub(crate) count: u8,

@@ -19,13 +19,13 @@ use pacing::writer_pacer::{
 };
 
 // What the settings say to the controller and to the pacers: held once, and read by every step.
-#[derive(Drop)]
+#[derive(Clone, Copy)]
 pub struct StationConfig {
     pub(crate) controller: ControllerConfig,
     pub(crate) pacer: PacerConfig,
 }
 
-#[derive(Drop)]
+#[derive(Clone, Copy)]
 pub struct Station {
     pub(crate) ledger: Ledger,
     pub(crate) config: StationConfig,
@@ -36,7 +36,7 @@ pub struct Station {
 
 // What a call other than a send attempt returns: its number; of a TOS byte whether congestion is signalled, and of a tick or a
 // rate setting whether the writers were given new budgets, which the allocator's rows show; and the station.
-#[derive(Drop)]
+#[derive(Clone, Copy)]
 pub struct StationAnswer {
     pub answer: u8,
     pub told: bool,
@@ -44,7 +44,7 @@ pub struct StationAnswer {
 }
 
 // What a send attempt returns.
-#[derive(Drop)]
+#[derive(Clone, Copy)]
 pub struct StationSent {
     pub answer: u8,
     pub action: SendAction,

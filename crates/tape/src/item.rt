@@ -14,7 +14,7 @@ const KIND: u32 = 268435456;
 
 // An item of a tape, as its first word and those that belong to it say.
 // `Broken` is number 5: an unknown kind or class, an item cut short, or the end that is missing.
-#[derive(Drop)]
+#[derive(Clone, Copy)]
 pub enum Item {
     End,
     Broken,

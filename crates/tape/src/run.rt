@@ -34,14 +34,14 @@ const LOOKED_THROUGH: usize = 1024;
 const CLOCK_STOP: u64 = 0x8000_0000_0000_0000;
 
 // The answer number, and how many bytes the lines have.
-#[derive(Drop)]
+#[derive(Clone, Copy)]
 pub struct TapeRun {
     pub answer: u8,
     pub length: u64,
 }
 
 // How far a run is: the next word, the next byte of the lines, the clock, and the calls so far.
-#[derive(Drop)]
+#[derive(Clone, Copy)]
 pub(crate) struct Place {
     pub(crate) word: usize,
     pub(crate) at: usize,
@@ -50,14 +50,14 @@ pub(crate) struct Place {
 }
 
 // A place after an advance, or as it was where there is none.
-#[derive(Drop)]
+#[derive(Clone, Copy)]
 pub(crate) struct Skipped {
     pub(crate) place: Place,
     pub(crate) moved: bool,
 }
 
 // What an item of the pacers leaves; `moved`: there was one.
-#[derive(Drop)]
+#[derive(Clone, Copy)]
 pub(crate) struct Paced {
     pub(crate) place: Place,
     pub(crate) roster: Roster,
@@ -66,7 +66,7 @@ pub(crate) struct Paced {
 
 // What a signal, a tick or a rate setting leaves; `moved`: there was one, and its line is written. A tick that changes the rate and a rate
 // setting that is accepted are done on the core but have not moved.
-#[derive(Drop)]
+#[derive(Clone, Copy)]
 pub(crate) struct Signalled {
     pub(crate) place: Place,
     pub(crate) core: ControllerCore,
@@ -74,14 +74,14 @@ pub(crate) struct Signalled {
 }
 
 // What samples one after the other leave.
-#[derive(Drop)]
+#[derive(Clone, Copy)]
 pub(crate) struct Sampled {
     pub(crate) place: Place,
     pub(crate) tracker: PeerRttTracker,
 }
 
 // What a sample leaves of the row that it goes to; `moved`: there was one.
-#[derive(Drop)]
+#[derive(Clone, Copy)]
 pub(crate) struct RowSampled {
     pub(crate) place: Place,
     pub(crate) row: PeerRow,
@@ -89,7 +89,7 @@ pub(crate) struct RowSampled {
 }
 
 // What a register, or a rate that is shared out, leaves of the writers.
-#[derive(Drop)]
+#[derive(Clone, Copy)]
 pub(crate) struct WritersLeft {
     pub(crate) place: Place,
     pub(crate) roster: Roster,

@@ -20,7 +20,7 @@ const ZERO: u8 = 48;
 const MOST_WRITERS: u64 = 64;
 
 // What a line tells after the answer number.
-#[derive(Drop)]
+#[derive(Clone, Copy)]
 pub enum Fields {
     Nothing,
     Flag(bool),

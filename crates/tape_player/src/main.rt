@@ -1,4 +1,5 @@
 // The tape player: plays the first 65,536 bytes of standard input as a tape, and writes its lines to standard output.
+#![tactic(auto)]
 
 // The most that is read of a tape.
 const TAPE_BYTES: usize = 65536;
