@@ -1,6 +1,8 @@
 // Plays the script on standard input and writes its lines to standard output: differential/README.md says what stands in both.
 #![tactic(auto)]
 
-fn main() {
-    script::run();
+use std::io;
+
+fn main(rt: HostRuntime) -> io::Result<()> {
+    script::run(&mut rt.reader(), &mut io::writer(&rt))
 }

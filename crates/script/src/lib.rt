@@ -23,49 +23,55 @@ mod words;
 use coalescing_ops::{BUFFER_BYTES, POOL_BYTES};
 use line::LINES_BYTES;
 use player::Modules;
+use std::io;
+use std::io::{ErrorKind, Read, Write};
 use words::{BATCH_BYTES, whole_records};
 
 // The most batches of a run. A proved loop has to end, and nothing says that the input does.
 const MOST_BATCHES: u64 = 4294967296;
 
-// Reads records from standard input to its end, and answers each by a line on standard output.
-pub fn run() {
+// Reads records from the input to its end, and answers each by a line on the output.
+pub fn run(input: &mut impl Read, output: &mut impl Write) -> io::Result<()> {
     let mut modules = Modules::new();
     let mut bytes = [0u8; BUFFER_BYTES];
     let mut pool = [0u8; POOL_BYTES];
-    let mut input = [0u8; BATCH_BYTES];
+    let mut batch = [0u8; BATCH_BYTES];
     let mut out = [0u8; LINES_BYTES];
-    let mut batches: u64 = 0;
-    while batches < MOST_BATCHES {
-        let got = read_batch(&mut input);
+    for _ in 0..MOST_BATCHES {
+        let got = read_batch(input, &mut batch)?;
         let records = whole_records(got);
-        let played = modules.play_batch(&mut bytes, &mut pool, &input, records, &mut out);
+        let played = modules.play_batch(&mut bytes, &mut pool, &batch, records, &mut out);
         modules = played.modules;
-        if !write_lines(&out, played.written) {
-            return;
-        }
+        write_lines(output, &out, played.written)?;
         if got < BATCH_BYTES {
-            return;
+            break;
         }
-        batches += 1;
     }
+    Ok(())
 }
 
-// How many bytes came: less than a batch only where the input ends.
-fn read_batch(input: &mut [u8; BATCH_BYTES]) -> usize {
-    io::read_full(libc::STDIN_FILENO, input)
+// The array, as a loop lends it; `read_full` takes it as a slice.
+fn read_batch(input: &mut impl Read, batch: &mut [u8; BATCH_BYTES]) -> io::Result<usize> {
+    read_full(input, batch)
+}
+
+// How many bytes came, in pieces as they come: less than there is room for only where the input ends.
+fn read_full(input: &mut impl Read, mut bytes: &mut [u8]) -> io::Result<usize> {
+    let room = bytes.len() as u64;
+    let got = io::copy(&mut input.take(room), &mut bytes)?;
+    Ok(got as usize)
 }
 
 // The array, as a loop lends it; `write_first` takes it as a slice.
-fn write_lines(out: &[u8; LINES_BYTES], written: usize) -> bool {
-    write_first(out, written)
+fn write_lines(output: &mut impl Write, out: &[u8; LINES_BYTES], written: usize) -> io::Result<()> {
+    write_first(output, out, written)
 }
 
-// Writes the first bytes and answers whether all of them went.
-fn write_first(out: &[u8], written: usize) -> bool {
+// Writes the first bytes.
+fn write_first(output: &mut impl Write, out: &[u8], written: usize) -> io::Result<()> {
     if written <= out.len() {
-        io::write_all(libc::STDOUT_FILENO, &out[0..written])
+        output.write_all(&out[0..written])
     } else {
-        false
+        Err(ErrorKind::InvalidInput.into())
     }
 }

@@ -3,6 +3,7 @@ ghost use Rattle.std.specs.Prelude.{◌≤◌};
 
 use crate::digest::{DIGEST_START, joined};
 use crate::words::BATCH_RECORDS;
+use itoa::Buffer;
 use numeric::float::{bits_of_f32, bits_of_f64};
 
 // The most numbers in a line, the operation's among them.
@@ -115,13 +116,13 @@ fn held(count: usize) -> usize
 
 // Writes a number, with a space before it unless it is the first of its line.
 fn put_number(out: &mut [u8], at: usize, index: usize, number: u64) -> usize {
-    let mut digits = [0u8; 20];
-    let count = io::decimal(number, &mut digits);
+    let mut buffer = Buffer::new();
+    let digits = buffer.format(number).as_bytes();
     if index == 0 {
-        put_bytes(out, at, &digits[..count])
+        put_bytes(out, at, digits)
     } else {
         let next = put_byte(out, at, b' ');
-        put_bytes(out, next, &digits[..count])
+        put_bytes(out, next, digits)
     }
 }
 

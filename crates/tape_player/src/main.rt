@@ -1,25 +1,33 @@
 // The tape player: plays the first 65,536 bytes of standard input as a tape, and writes its lines to standard output.
 #![tactic(auto)]
 
+use std::io;
+use std::io::{ErrorKind, Read, Write};
+
 // The most that is read of a tape.
 const TAPE_BYTES: usize = 65536;
 
 // Room for the lines of so long a tape: 24 bytes, and 192 for each of its 16,384 words.
 const LINES_BYTES: usize = 3145752;
 
-fn main() {
+fn main(rt: HostRuntime) -> io::Result<()> {
     let mut bytes = [0u8; TAPE_BYTES];
     let mut lines = [0u8; LINES_BYTES];
-    let got = read_tape(&mut bytes);
+    let got = read_tape(&mut rt.reader(), &mut bytes)?;
     let length = play_tape(&bytes, got, &mut lines);
-    if !write_lines(&lines, length) {
-        os::fail(b"tape_player: standard output");
-    }
+    write_lines(&mut io::writer(&rt), &lines, length)
+}
+
+// The array, as `main` lends it; `read_full` takes it as a slice.
+fn read_tape(input: &mut impl Read, bytes: &mut [u8; TAPE_BYTES]) -> io::Result<usize> {
+    read_full(input, bytes)
 }
 
 // How many bytes came, in pieces as they come: less than there is room for only where the input ends.
-fn read_tape(bytes: &mut [u8; TAPE_BYTES]) -> usize {
-    io::read_full(libc::STDIN_FILENO, bytes)
+fn read_full(input: &mut impl Read, mut bytes: &mut [u8]) -> io::Result<usize> {
+    let room = bytes.len() as u64;
+    let got = io::copy(&mut input.take(room), &mut bytes)?;
+    Ok(got as usize)
 }
 
 // The arrays, as `main` lends them; `play_first` takes them as slices.
@@ -36,15 +44,19 @@ fn play_first(bytes: &[u8], got: usize, lines: &mut [u8]) -> usize {
     0
 }
 
-fn write_lines(lines: &[u8; LINES_BYTES], length: usize) -> bool {
-    write_first(lines, length)
+fn write_lines(
+    output: &mut impl Write,
+    lines: &[u8; LINES_BYTES],
+    length: usize,
+) -> io::Result<()> {
+    write_first(output, lines, length)
 }
 
-// Writes the first bytes and answers whether all of them went.
-fn write_first(lines: &[u8], length: usize) -> bool {
+// Writes the first bytes.
+fn write_first(output: &mut impl Write, lines: &[u8], length: usize) -> io::Result<()> {
     if length <= lines.len() {
-        io::write_all(libc::STDOUT_FILENO, &lines[0..length])
+        output.write_all(&lines[0..length])
     } else {
-        false
+        Err(ErrorKind::InvalidInput.into())
     }
 }

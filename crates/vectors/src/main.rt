@@ -1,6 +1,8 @@
 // Plays the stored script, crates/vectors/stdin; the lines it must write are crates/vectors/stdout.
 #![tactic(auto)]
 
-fn main() {
-    script::run();
+use std::io;
+
+fn main(rt: HostRuntime) -> io::Result<()> {
+    script::run(&mut rt.reader(), &mut io::writer(&rt))
 }
