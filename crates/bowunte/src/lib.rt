@@ -37,20 +37,20 @@ fn byte_of(number: u64, worth: u64) -> u8
 }
 
 // A result as 8 little-endian bytes, in a slice that has room for them.
-fn put_result(out: &mut [u8], res: u64)
-    ensures { out.new ≡ shown out.old res }
+fn put_result(out: &mut [u8], number: u64)
+    ensures { out.new ≡ shown out.old number }
 {
     if out.len() < RESULT_BYTES {
         return;
     }
-    put_byte(out, 0, byte_of(res, 1));
-    put_byte(out, 1, byte_of(res, 256));
-    put_byte(out, 2, byte_of(res, 65536));
-    put_byte(out, 3, byte_of(res, 16777216));
-    put_byte(out, 4, byte_of(res, 4294967296));
-    put_byte(out, 5, byte_of(res, 1099511627776));
-    put_byte(out, 6, byte_of(res, 281474976710656));
-    put_byte(out, 7, byte_of(res, 72057594037927936));
+    put_byte(out, 0, byte_of(number, 1));
+    put_byte(out, 1, byte_of(number, 256));
+    put_byte(out, 2, byte_of(number, 65536));
+    put_byte(out, 3, byte_of(number, 16777216));
+    put_byte(out, 4, byte_of(number, 4294967296));
+    put_byte(out, 5, byte_of(number, 1099511627776));
+    put_byte(out, 6, byte_of(number, 281474976710656));
+    put_byte(out, 7, byte_of(number, 72057594037927936));
 }
 
 // Whether a rate is not from the least rate, itself at least 1, to 1,000,000,000.

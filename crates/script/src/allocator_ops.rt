@@ -93,13 +93,13 @@ fn reallocated(line: Line, call: AllocatorAnswer) -> AllocatorPlayed {
 fn shown(
     line: Line,
     answer: u8,
-    res: bool,
+    told: bool,
     updates: u64,
     alone: BudgetAllocatorAlone,
 ) -> AllocatorPlayed {
     let ledger = alone.ledger();
     let allocator = alone.allocator();
-    let answered = line.with_u8(answer).with_flag(res);
+    let answered = line.with_u8(answer).with_flag(told);
     AllocatorPlayed {
         alone,
         line: with_allocator(answered, allocator)

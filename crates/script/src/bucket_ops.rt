@@ -58,14 +58,14 @@ fn told(line: Line, call: TokenBucketTold) -> BucketPlayed {
 }
 
 // The bucket, and its line with a call's answer and result.
-fn shown(line: Line, answer: u8, res: u64, alone: TokenBucketAlone) -> BucketPlayed {
+fn shown(line: Line, answer: u8, number: u64, alone: TokenBucketAlone) -> BucketPlayed {
     let bucket = alone.bucket();
     let ledger = alone.ledger();
     BucketPlayed {
         alone,
         line: line
             .with_u8(answer)
-            .with(res)
+            .with(number)
             .with(bucket.tokens())
             .with(bucket.capacity())
             .with_u32(bucket.rate())

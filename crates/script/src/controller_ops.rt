@@ -107,14 +107,14 @@ fn updated(line: Line, call: ControllerAnswer) -> ControllerPlayed {
 fn shown(
     line: Line,
     answer: u8,
-    res: bool,
+    told: bool,
     updates: u64,
     alone: CongestionControllerAlone,
 ) -> ControllerPlayed {
     let ledger = alone.ledger();
     let config = alone.config();
     let controller = alone.controller();
-    let answered = line.with_u8(answer).with_flag(res);
+    let answered = line.with_u8(answer).with_flag(told);
     let counted = with_controller(answered, config.enabled, controller)
         .with(ledger.calls())
         .with(ledger.last());
