@@ -253,7 +253,7 @@ fn send(
 ) -> Paced
     ensures word_value { result.place.word ≡ next }
     ensures moved_value { result.moved ≡ true }
-    ensures by_index { (bytes : List ℕ) (pool : List ℕ) → Stands bytes place.word next (Send pacer) → length pool ≡ pool_length → PacedOn bytes config lines.old place roster words.old pool lines.new result.place result.roster words.new pool }
+    ensures paced_on { (bytes : List ℕ) (pool : List ℕ) → Stands bytes place.word next (Send pacer) → length pool ≡ pool_length → PacedOn bytes config lines.old place roster words.old pool lines.new result.place result.roster words.new pool }
 {
     let tried = parts::send(
         place.ledger,
@@ -373,7 +373,7 @@ fn eagain(
 ) -> Signalled
     ensures word_value { result.place.word ≡ next }
     ensures moved_value { result.moved ≡ true }
-    ensures by_index { (bytes : List ℕ) (inflated : Bool) → Stands bytes place.word next Eagain → SignalledOn inflated bytes config lines.old place core lines.new result.place result.core }
+    ensures signalled_on { (bytes : List ℕ) (inflated : Bool) → Stands bytes place.word next Eagain → SignalledOn inflated bytes config lines.old place core lines.new result.place result.core }
 {
     let left = parts::on_eagain(place.ledger, config.controller(), core, place.clock);
     say(place, next, left, Fields::Nothing, lines)
@@ -389,7 +389,7 @@ fn nacks(
 ) -> Signalled
     ensures word_value { result.place.word ≡ next }
     ensures moved_value { result.moved ≡ true }
-    ensures by_index { (bytes : List ℕ) (inflated : Bool) → Stands bytes place.word next (Nacks count) → SignalledOn inflated bytes config lines.old place core lines.new result.place result.core }
+    ensures signalled_on { (bytes : List ℕ) (inflated : Bool) → Stands bytes place.word next (Nacks count) → SignalledOn inflated bytes config lines.old place core lines.new result.place result.core }
 {
     let left = parts::on_nacks(place.ledger, config.controller(), core, place.clock, count);
     say(place, next, left, Fields::Nothing, lines)
@@ -405,7 +405,7 @@ fn tos(
 ) -> Signalled
     ensures word_value { result.place.word ≡ next }
     ensures moved_value { result.moved ≡ true }
-    ensures by_index { (bytes : List ℕ) (inflated : Bool) → Stands bytes place.word next (Tos byte) → SignalledOn inflated bytes config lines.old place core lines.new result.place result.core }
+    ensures signalled_on { (bytes : List ℕ) (inflated : Bool) → Stands bytes place.word next (Tos byte) → SignalledOn inflated bytes config lines.old place core lines.new result.place result.core }
 {
     let left = parts::on_ecn_tos(place.ledger, config.controller(), core, place.clock, byte);
     let fields = fields_where(left.answer, Fields::Flag(left.told));
@@ -421,10 +421,10 @@ fn tick(
     inflated: bool,
     lines: &mut [u8],
 ) -> Signalled
-    ensures word_value { result.moved ≡ true → result.place.word ≡ next }
-    ensures word_value_2 { result.moved ≡ false → result.place.word ≡ place.word }
-    ensures by_index { (bytes : List ℕ) → Stands bytes place.word next Tick → result.moved ≡ true → SignalledOn inflated bytes config lines.old place core lines.new result.place result.core }
-    ensures by_index_2 { (bytes : List ℕ) → Stands bytes place.word next Tick → result.moved ≡ false → HaltedOn inflated bytes config lines.old place core lines.new result.place result.core }
+    ensures word_moved { result.moved ≡ true → result.place.word ≡ next }
+    ensures word_stayed { result.moved ≡ false → result.place.word ≡ place.word }
+    ensures signalled_on { (bytes : List ℕ) → Stands bytes place.word next Tick → result.moved ≡ true → SignalledOn inflated bytes config lines.old place core lines.new result.place result.core }
+    ensures halted_on { (bytes : List ℕ) → Stands bytes place.word next Tick → result.moved ≡ false → HaltedOn inflated bytes config lines.old place core lines.new result.place result.core }
 {
     let left = parts::tick(
         place.ledger,
@@ -455,10 +455,10 @@ fn set_rate(
     lines: &mut [u8],
     rate_bps: u32,
 ) -> Signalled
-    ensures word_value { result.moved ≡ true → result.place.word ≡ next }
-    ensures word_value_2 { result.moved ≡ false → result.place.word ≡ place.word }
-    ensures by_index { (bytes : List ℕ) (inflated : Bool) → Stands bytes place.word next (SetRate rate_bps) → result.moved ≡ true → SignalledOn inflated bytes config lines.old place core lines.new result.place result.core }
-    ensures by_index_2 { (bytes : List ℕ) (inflated : Bool) → Stands bytes place.word next (SetRate rate_bps) → result.moved ≡ false → HaltedOn inflated bytes config lines.old place core lines.new result.place result.core }
+    ensures word_moved { result.moved ≡ true → result.place.word ≡ next }
+    ensures word_stayed { result.moved ≡ false → result.place.word ≡ place.word }
+    ensures signalled_on { (bytes : List ℕ) (inflated : Bool) → Stands bytes place.word next (SetRate rate_bps) → result.moved ≡ true → SignalledOn inflated bytes config lines.old place core lines.new result.place result.core }
+    ensures halted_on { (bytes : List ℕ) (inflated : Bool) → Stands bytes place.word next (SetRate rate_bps) → result.moved ≡ false → HaltedOn inflated bytes config lines.old place core lines.new result.place result.core }
 {
     let left = parts::set_rate(
         place.ledger,
@@ -637,7 +637,7 @@ fn register(
     id: u32,
 ) -> WritersLeft
     ensures word_value { result.place.word ≡ next }
-    ensures by_index { (bytes : List ℕ) → Stands bytes place.word next (Register class id) → RegisteredOn bytes config lines.old place roster allocator lines.new result.place result.roster result.allocator }
+    ensures registered_on { (bytes : List ℕ) → Stands bytes place.word next (Register class id) → RegisteredOn bytes config lines.old place roster allocator lines.new result.place result.roster result.allocator }
 {
     let left = parts::register(
         place.ledger,
