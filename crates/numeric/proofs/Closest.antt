@@ -1,6 +1,6 @@
 -- A fraction to the nearest whole number, from its quotient by half the divisor: the last digit of that quotient rounds, and what is left below it breaks ties.
 -- And the digits of a float times 5 ^ 9 over a power of two, as `nearest_scaled` works them out. Assumes nothing.
-use Rattle.std.proofs.Common.{◌≡◌, ℕ, suc, ◌+◌, ◌-◌, ◌*◌, ◌/◌, ◌%◌, ◌^◌, ◌<◌, ◌≤◌, not, T, eqb, sym, refl, ap, ◌∙◌, subst, mod-lt, mul_comm, mul-pos, div-le_self, arith, eqb→eq, leb→le, pow_pos, pow-add}
+use Rattle.std.proofs.Common.{◌≡◌, ℕ, suc, ◌+◌, ◌*◌, ◌/◌, ◌%◌, ◌^◌, ◌<◌, ◌≤◌, not, T, eqb, sym, refl, ap, ◌∙◌, subst, mod-lt, mul_comm, mul-pos, div-le_self, arith, eqb→eq, leb→le, pow_pos, pow-add}
 use Prim.Native.Nat.{compare, Ordering}
 use native.Mathlib.Nat.{div-div-eq-div-mul}
 use lib.Arith.{lt_of_le-ne, mod-mul}

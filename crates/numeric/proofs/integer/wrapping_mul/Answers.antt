@@ -1,5 +1,5 @@
-use Rattle.std.proofs.Common.{◌∙◌, rules}
-use Rattle.numeric.proofs.Products.{product-below, wrapped}
+use Rattle.std.proofs.Common.{◌∙◌}
+use Rattle.numeric.proofs.Products.{wrapped}
 use Rattle.numeric.proofs.integer.wrapping_mul.Goals as goal
 
 pub returns : goal.returns
