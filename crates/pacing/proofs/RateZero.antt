@@ -24,6 +24,7 @@ cut_nought w (fin false m e) s d D h = ap (λ (k : ℕ). min (k / down e) (2 ^ w
   where
     none : (a d e : ℕ) → 0 < d → a * d ≡ 0 * e → a ≡ 0
     none zero d e D h = refl
+    none (suc a) zero e D h = elim D [ ]
     none (suc a) (suc d) e D h = absurd (omega arith)
 
     least : (e k : ℕ) → min (0 / e) k ≡ 0

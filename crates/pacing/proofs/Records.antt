@@ -18,7 +18,7 @@ use Rattle.pacing.specs.Coalescing.{found, inserted, queue_of, replaced_at, join
 use Rattle.pacing.specs.Entries.{pacer_at, queue_at, entry_at, entry_of, no_key, look, entered, shaped, most_of}
 use Rattle.pacing.specs.Pool.{piece, stored, bytes_of, slots_of, slot_start}
 use Rattle.pacing.specs.Records.{Held, held_of, held, waiting, limit_in, Book, book_of, empty_book, sequence_in, next_p2_after, record_in, keyed, list_after, with_list, book_handed, book_sent, Shows, Parts, parts_of, Call, hand_in, try_send, set_rate, parts_after, book_after, CallShows, AllShown}
-use Rattle.pacing.specs.Ring.{is_full, new_ring, slot_at, popped, pushed, roomy, next_slot, joins, placed, kept_as, refused}
+use Rattle.pacing.specs.Ring.{is_full, new_ring, slot_at, popped, pushed, next_slot, joins, placed, kept_as, refused}
 use Rattle.pacing.specs.TokenBucket.{tried, told}
 use Rattle.pacing.specs.Window.{window, upd, contents, join_list, place_in}
 use Rattle.pacing.specs.WriterPacer.{ring_of, with_ring, front_of, gone, paid, waited, limited, attempt_p0, with_queues, with_tokens, numbered, placed_in, enqueue_p0, enqueue_p1, enqueue_p2, inserted_into, hand_in_noted, hand_in_written, hand_in_stored, enqueue, attempt, rate_set, send_noted, made}

@@ -2,9 +2,9 @@
 use Prim.Native.Nat.{ℕ, zero, suc, ◌+◌, ◌%◌, ◌/◌, ◌≤◌, ◌<◌}
 use mathlib.Core.List.{List, [], ◌∷◌, ◌++◌, map}
 use mathlib.Core.Logic.{◌≢◌}
-use mathlib.Core.Path.{◌≡◌, refl, sym, ap, ap₂, ◌∙◌}
+use mathlib.Core.Path.{◌≡◌, refl, sym, ap, ap₂, subst, ◌∙◌}
 use native.Mathlib.Decide.{dec_le}
-use native.Mathlib.Nat.{suc-mod, div-add-mod', mul-le-mul_right, add-zero, add-suc, suc-add, mod-mod}
+use native.Mathlib.Nat.{suc-mod, div-add-mod', mul-le-mul_right, add-zero, mod-mod}
 use native.Mathlib.Omega.{arith}
 use borrow.Author.Tests.{eq-eqb, ne_eqb}
 use lib.ListN.{length, set}
@@ -66,13 +66,15 @@ module _ {A : Type 0} where
   unfolding window
   window_set f L h zero i e lo q = absurd (omega arith)
   window_set f L h (suc n) zero e lo q =
-      ap₂ (λ (x : A) (xs : List A). x ∷ xs)
-      (rw (add-zero h) (upd_same f (h % L) e))
-      (rw (add-zero h) (window_ext (upd f (h % L) e) f L (suc h) n (λ k lo hi. upd_other f (h % L) e (k % L) (λ t. mod-apart L h k lo (omega arith) (sym t)))))
+      subst (λ (k : ℕ). window (upd f (k % L) e) L h (suc n) ≡ set (window f L h (suc n)) zero e) (sym (add-zero h))
+      (ap₂ (λ (x : A) (xs : List A). x ∷ xs)
+      (upd_same f (h % L) e)
+      (window_ext (upd f (h % L) e) f L (suc h) n (λ k lo hi. upd_other f (h % L) e (k % L) (λ t. mod-apart L h k lo (omega arith) (sym t)))))
   window_set f L h (suc n) (suc i) e lo q =
+      let moved : suc h + i ≡ h + suc i = omega arith in
       ap₂ (λ (x : A) (xs : List A). x ∷ xs)
       (upd_other f ((h + suc i) % L) e (h % L) (mod-apart L h (h + suc i) (omega arith) (omega arith)))
-      (rw (add-suc h i) (rw (← suc-add h i) (window_set f L (suc h) n i e (omega arith) (omega arith))))
+      (subst (λ (k : ℕ). window (upd f (k % L) e) L (suc h) n ≡ set (window f L (suc h) n) i e) moved (window_set f L (suc h) n i e (omega arith) (omega arith)))
 
   pub window_map : {B : Type 0} (g : A → B) (f : ℕ → A) (L h n : ℕ) → map g (window f L h n) ≡ window (λ k. g (f k)) L h n
   unfolding window

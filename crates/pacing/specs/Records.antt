@@ -1,6 +1,6 @@
 -- What the queues of a pacer hold, with the records' bytes, and the book that it is held against (document 01, "What the port owes on
 -- paper"), for one pacer: the laws in `proofs/Records.antt` speak of these. Definitions only.
-use Rattle.std.specs.Prelude.{ℕ, ◌+◌, ◌<◌, Bool, cond, List, [], ◌∷◌, ◌++◌, ◌≡◌, ltb, eqb, length, set, drop, get_or}
+use Rattle.std.specs.Prelude.{ℕ, ◌<◌, Bool, cond, List, [], ◌∷◌, ◌++◌, ◌≡◌, ltb, eqb, length, set, drop, get_or}
 use Rattle.config.specs.Config.{class_number}
 use Rattle.config.specs.declared.config.Priority.{Priority}
 use Rattle.config.specs.declared.config.Priority.TheVariants.{P0, P1, P2}
