@@ -1,4 +1,4 @@
-//! Links the static library of the crate `bowunte`, which `rt staticlib bowunte` makes.
+//! Links the static library of the crate `bowunte_c`, which `tools/archive bowunte_c` makes.
 
 use std::env;
 use std::path::{Path, PathBuf};
@@ -12,7 +12,7 @@ fn main() {
     println!("cargo:rerun-if-changed={}", archive.display());
     if !archive.is_file() {
         eprintln!(
-            "{} is missing: run 'rt staticlib bowunte' first, or let BOWUNTE_LIB_DIR name its folder",
+            "{} is missing: run 'tools/archive bowunte_c' first, or let BOWUNTE_LIB_DIR name its folder",
             archive.display()
         );
         std::process::exit(1);

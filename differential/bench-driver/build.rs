@@ -1,5 +1,5 @@
-//! Links the static libraries of the crates bench_parts, bench_whole, bench_control, bench_control_whole and bowunte, from the folder
-//! that BENCH_LIBRARY names.
+//! Links the static libraries that `tools/archive` makes of the crates bench_parts, bench_whole, bench_control_c,
+//! bench_control_whole and bowunte_c, from the folder that BENCH_LIBRARY names.
 
 fn main() {
     let folder = std::env::var("BENCH_LIBRARY").expect("BENCH_LIBRARY names the folder of the static libraries");
