@@ -1,6 +1,6 @@
 -- One item of a run at a time: its line, and the run's end from the next item on. Assumes nothing.
 use Prim.Native.Nat.{ℕ, ◌+◌, ◌-◌, ◌*◌, ◌/◌, ◌<◌, ◌≤◌, min, max}
-use mathlib.Core.Bool.{Bool, true, false, not, cond, false≢true, ◌||◌}
+use mathlib.Core.Bool.{Bool, true, false, cond, false≢true, ◌||◌}
 use mathlib.Core.List.{List, [], ◌∷◌, ◌++◌, append_assoc, append-nil}
 use mathlib.Core.Logic.{inl, inr}
 use mathlib.Core.Path.{◌≡◌, refl, ap, ap₂, sym, subst, ◌∙◌}
@@ -496,16 +496,37 @@ pub unhanded_item : (i : Item) → OneOf unhanded_tags (tag_of the_type i) → i
 unfolding owners passed
 unhanded_item = unowned unhanded_tags 2 refl
 
-abbrev pub unsignalled_tags : List ℕ
-unsignalled_tags = 0 ∷ 1 ∷ 2 ∷ 3 ∷ 7 ∷ 9 ∷ 10 ∷ []
-
-pub unsignalled_item : (i : Item) → OneOf unsignalled_tags (tag_of the_type i) → is_advance i ≡ false → is_signal i ≡ false
+pub unsignalled_item :
+    (i : Item) → (i ≡ Eagain → ⊥) → ((tos : ℕ) → i ≡ Tos tos → ⊥) → ((count : ℕ) → i ≡ Nacks count → ⊥) → (i ≡ Tick → ⊥)
+    → ((rate : ℕ) → i ≡ SetRate rate → ⊥) → is_advance i ≡ false → is_signal i ≡ false
 unfolding owners passed
-unsignalled_item i h e = ap₂ ◌||◌ e (unowned unsignalled_tags 3 refl i h)
+unsignalled_item End e t m k r h = refl
+unsignalled_item Broken e t m k r h = refl
+unsignalled_item (Advance v) e t m k r h = absurd (false≢true (sym h))
+unsignalled_item (Register c id) e t m k r h = refl
+unsignalled_item Eagain e t m k r h = absurd (e refl)
+unsignalled_item (Tos tos) e t m k r h = absurd (t tos refl)
+unsignalled_item (Nacks count) e t m k r h = absurd (m count refl)
+unsignalled_item (Rtt peer bits) e t m k r h = refl
+unsignalled_item Tick e t m k r h = absurd (k refl)
+unsignalled_item (HandIn i c n) e t m k r h = refl
+unsignalled_item (Send i) e t m k r h = refl
+unsignalled_item (SetRate rate) e t m k r h = absurd (r rate refl)
 
-pub unrated_item : (i : Item) → OneOf unsignalled_tags (tag_of the_type i) → is_rated i ≡ false
+pub unrated_item : (i : Item) → (i ≡ Tick → ⊥) → ((rate : ℕ) → i ≡ SetRate rate → ⊥) → is_rated i ≡ false
 unfolding owners passed
-unrated_item = unowned unsignalled_tags 6 refl
+unrated_item End k r = refl
+unrated_item Broken k r = refl
+unrated_item (Advance v) k r = refl
+unrated_item (Register c id) k r = refl
+unrated_item Eagain k r = refl
+unrated_item (Tos tos) k r = refl
+unrated_item (Nacks count) k r = refl
+unrated_item (Rtt peer bits) k r = refl
+unrated_item Tick k r = absurd (k refl)
+unrated_item (HandIn i c n) k r = refl
+unrated_item (Send i) k r = refl
+unrated_item (SetRate rate) k r = absurd (r rate refl)
 
 abbrev pub unsampled_tags : List ℕ
 unsampled_tags = 0 ∷ 1 ∷ 2 ∷ 3 ∷ 4 ∷ 5 ∷ 6 ∷ 8 ∷ 9 ∷ 10 ∷ 11 ∷ []
@@ -514,32 +535,26 @@ pub unsampled_item : (i : Item) → OneOf unsampled_tags (tag_of the_type i) →
 unfolding owners passed
 unsampled_item i h e = ap₂ ◌||◌ e (unowned unsampled_tags 4 refl i h)
 
-abbrev pub going_tags : List ℕ
-going_tags = 2 ∷ 3 ∷ 4 ∷ 5 ∷ 6 ∷ 7 ∷ 8 ∷ 9 ∷ 10 ∷ 11 ∷ []
-
-pub going_item : (i : Item) → OneOf going_tags (tag_of the_type i) → false ≡ stops i
+pub going_item : (i : Item) → (i ≡ End → ⊥) → (i ≡ Broken → ⊥) → false ≡ stops i
 unfolding stops
-going_item End h = absurd (miss going_tags 0 tt h)
-going_item Broken h = absurd (miss going_tags 1 tt h)
-going_item (Advance v) h = refl
-going_item (Register c id) h = refl
-going_item Eagain h = refl
-going_item (Tos tos) h = refl
-going_item (Nacks count) h = refl
-going_item (Rtt peer bits) h = refl
-going_item Tick h = refl
-going_item (HandIn i c n) h = refl
-going_item (Send i) h = refl
-going_item (SetRate rate) h = refl
-
-abbrev pub sound_tags : List ℕ
-sound_tags = 0 ∷ 2 ∷ 3 ∷ 4 ∷ 5 ∷ 6 ∷ 7 ∷ 8 ∷ 9 ∷ 10 ∷ 11 ∷ []
+going_item End e b = absurd (e refl)
+going_item Broken e b = absurd (b refl)
+going_item (Advance v) e b = refl
+going_item (Register c id) e b = refl
+going_item Eagain e b = refl
+going_item (Tos tos) e b = refl
+going_item (Nacks count) e b = refl
+going_item (Rtt peer bits) e b = refl
+going_item Tick e b = refl
+going_item (HandIn i c n) e b = refl
+going_item (Send i) e b = refl
+going_item (SetRate rate) e b = refl
 
 -- of the items that stop the tape, all but a broken one are its end
-pub end-item : (i : Item) → OneOf sound_tags (tag_of the_type i) → stops i ≡ true → i ≡ End
+pub end-item : (i : Item) → (i ≡ Broken → ⊥) → stops i ≡ true → i ≡ End
 unfolding stops
 end-item End h e = refl
-end-item Broken h e = absurd (miss sound_tags 1 tt h)
+end-item Broken h e = absurd (h refl)
 end-item (Advance v) h e = absurd (false≢true e)
 end-item (Register c id) h e = absurd (false≢true e)
 end-item Eagain h e = absurd (false≢true e)
@@ -552,23 +567,22 @@ end-item (Send i) h e = absurd (false≢true e)
 end-item (SetRate rate) h e = absurd (false≢true e)
 
 -- what neither enters a table nor stops the tape nor is a signal nor has a rate to share out is the pacers'
-abbrev pub untabled_tags : List ℕ
-untabled_tags = 0 ∷ 1 ∷ 2 ∷ 4 ∷ 5 ∷ 6 ∷ 8 ∷ 9 ∷ 10 ∷ 11 ∷ []
-
-pub paced-item : (i : Item) → OneOf untabled_tags (tag_of the_type i) → stops i ≡ false → is_signal i ≡ false → is_rated i ≡ false → is_paced i ≡ true
+pub paced-item :
+    (i : Item) → ((c : Priority) (id : ℕ) → i ≡ Register c id → ⊥) → ((peer bits : ℕ) → i ≡ Rtt peer bits → ⊥) → stops i ≡ false → is_signal i ≡ false
+    → is_rated i ≡ false → is_paced i ≡ true
 unfolding stops
-paced-item End h e f g = absurd (false≢true (sym e))
-paced-item Broken h e f g = absurd (false≢true (sym e))
-paced-item (Advance v) h e f g = absurd (false≢true (sym f))
-paced-item (Register c id) h e f g = absurd (miss untabled_tags 3 tt h)
-paced-item Eagain h e f g = absurd (false≢true (sym f))
-paced-item (Tos tos) h e f g = absurd (false≢true (sym f))
-paced-item (Nacks count) h e f g = absurd (false≢true (sym f))
-paced-item (Rtt peer bits) h e f g = absurd (miss untabled_tags 7 tt h)
-paced-item Tick h e f g = absurd (false≢true (sym g))
-paced-item (HandIn i c n) h e f g = refl
-paced-item (Send i) h e f g = refl
-paced-item (SetRate rate) h e f g = absurd (false≢true (sym g))
+paced-item End h r e f g = absurd (false≢true (sym e))
+paced-item Broken h r e f g = absurd (false≢true (sym e))
+paced-item (Advance v) h r e f g = absurd (false≢true (sym f))
+paced-item (Register c id) h r e f g = absurd (h c id refl)
+paced-item Eagain h r e f g = absurd (false≢true (sym f))
+paced-item (Tos tos) h r e f g = absurd (false≢true (sym f))
+paced-item (Nacks count) h r e f g = absurd (false≢true (sym f))
+paced-item (Rtt peer bits) h r e f g = absurd (r peer bits refl)
+paced-item Tick h r e f g = absurd (false≢true (sym g))
+paced-item (HandIn i c n) h r e f g = refl
+paced-item (Send i) h r e f g = refl
+paced-item (SetRate rate) h r e f g = absurd (false≢true (sym g))
 
 -- what stops the tape is nobody's
 pub last_owner : (i : Item) → stops i ≡ true → owner_of i ≡ 0

@@ -16,23 +16,14 @@ pub returns-then-answer-ne0-clause-pool_after : goal.returns-then-answer-ne0-cla
 unfolding inserted_by words_inserted_by pool_inserted_by
 returns-then-answer-ne0-clause-pool_after c = first_of (search rules, grind (arith, common_steps))
 
--- left: the old proof of all clauses together
--- unfolding inserted_by words_inserted_by pool_inserted_by
--- rw (c.if-answer-ne0.false, ← c.insert-inserted.ensures, ← c.counted.ensures) (refl, c.write.ensures)
 pub returns-clause-value : goal.returns-clause-value
 unfolding inserted_by words_inserted_by pool_inserted_by
 returns-clause-value c = first_of (search rules, grind (arith, common_steps))
 
--- left: the old proof of all clauses together
--- unfolding inserted_by words_inserted_by pool_inserted_by
--- rw (c.if-answer-ne0.false, ← c.insert-inserted.ensures, ← c.counted.ensures) (refl, c.write.ensures)
 pub returns-clause-words_after : goal.returns-clause-words_after
 unfolding inserted_by words_inserted_by pool_inserted_by
 returns-clause-words_after c = first_of (search rules, grind (arith, common_steps))
 
--- left: the old proof of all clauses together
--- unfolding inserted_by words_inserted_by pool_inserted_by
--- rw (c.if-answer-ne0.false, ← c.insert-inserted.ensures, ← c.counted.ensures) (refl, c.write.ensures)
 pub returns-clause-pool_after : goal.returns-clause-pool_after
 unfolding inserted_by words_inserted_by pool_inserted_by
 returns-clause-pool_after c = first_of (search rules, grind (arith, common_steps))

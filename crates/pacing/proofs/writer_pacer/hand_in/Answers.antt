@@ -16,23 +16,14 @@ pub returns-then-answer-ne0-clause-pool_after : goal.returns-then-answer-ne0-cla
 unfolding handed_by words_handed_by pool_handed_by
 returns-then-answer-ne0-clause-pool_after c = first_of (search rules, grind (arith, common_steps))
 
--- left: the old proof of all clauses together
--- unfolding handed_by words_handed_by pool_handed_by
--- rw (c.if-answer-ne0.false, ← c.enqueue-enqueued.ensures, ← c.number.ensures, ← c.moved.ensures) (refl, c.write.ensures)
 pub returns-clause-value : goal.returns-clause-value
 unfolding handed_by words_handed_by pool_handed_by
 returns-clause-value c = first_of (search rules, grind (arith, common_steps))
 
--- left: the old proof of all clauses together
--- unfolding handed_by words_handed_by pool_handed_by
--- rw (c.if-answer-ne0.false, ← c.enqueue-enqueued.ensures, ← c.number.ensures, ← c.moved.ensures) (refl, c.write.ensures)
 pub returns-clause-words_after : goal.returns-clause-words_after
 unfolding handed_by words_handed_by pool_handed_by
 returns-clause-words_after c = first_of (search rules, grind (arith, common_steps))
 
--- left: the old proof of all clauses together
--- unfolding handed_by words_handed_by pool_handed_by
--- rw (c.if-answer-ne0.false, ← c.enqueue-enqueued.ensures, ← c.number.ensures, ← c.moved.ensures) (refl, c.write.ensures)
 pub returns-clause-pool_after : goal.returns-clause-pool_after
 unfolding handed_by words_handed_by pool_handed_by
 returns-clause-pool_after c = first_of (search rules, grind (arith, common_steps))
