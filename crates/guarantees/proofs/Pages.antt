@@ -221,21 +221,21 @@ owed_in m s e owed pool h = refl
 owed_in m s e (instead other) pool h = rw (ap (λ (x : Limits). is_short (length other) (slots_needed x)) e ∙ h)
 
 module _ (m : Limits) (k : Kept) (x : Call) (xs : List Call) (ok : OwedPool m k (x ∷ xs)) where
-  in_place : in_place k.state.station (lent_in x) k.state.pool ≡ k.state.pool
-  in_place = owed_in m k.state.station ok.sound.same_limits (lent_in x) k.state.pool ok.lent.0
+  in_place_lem : in_place k.state.station (lent_in x) k.state.pool ≡ k.state.pool
+  in_place_lem = owed_in m k.state.station ok.sound.same_limits (lent_in x) k.state.pool ok.lent.0
 
   owed-step : OwedPool m (keep m k x) xs
   unfolding keep after
   owed-step =
       record {
         sound =
-            rw in_place
+            rw in_place_lem
             (sound_outcome m k.state.pool k.state.station k.book ok.sound (length k.state.pool) x);
         lent = ok.lent.1;
       }
 
   owed-shown : ShownBytes k x
-  owed-shown = shown_bytes_lem m k.state.pool k ok.sound x in_place
+  owed-shown = shown_bytes_lem m k.state.pool k ok.sound x in_place_lem
 
 -- ---- a first pool that is too short: every hand-in and send attempt is turned down, and nothing waits
 
