@@ -8,9 +8,9 @@ use lib.ListN.{length}
 use Rattle.bench_parts.proofs.parts.run.Given as goal
 
 abbrev pub invariant-loop-k : goal.invariant-loop-k
-invariant-loop-k l = 
+invariant-loop-k l =
     (l.k ≤ length l.list) × (length l.pool ≡ length l.initial.pool)
 
 abbrev pub decreases-loop-k : goal.decreases-loop-k
-decreases-loop-k l = 
+decreases-loop-k l =
     length l.list - l.k
