@@ -1,9 +1,6 @@
 -- `run` is safe and ends: the measure is the number of calls that are left, and the pool keeps its length.
 use Prim.Native.Nat.{◌≤◌, ◌-◌}
-use mathlib.Core.Logic.{⊎_elim}
-use mathlib.Core.Path.{◌≡◌, ◌∙◌}
-use native.Mathlib.Omega.{arith}
-use borrow.Author.Rules.{rules}
+use mathlib.Core.Path.{◌≡◌}
 use lib.ListN.{length}
 use Rattle.bench_parts.proofs.parts.run.Given as goal
 
