@@ -1,22 +1,29 @@
--- The settings: defaults, the seven checks of `validate`, and the limits of document 01, "Domain". Definitions only.
-use Rattle.std.specs.Prelude.{ℕ, Bool, true, false, not, cond, ◌&&◌, ◌||◌, List, [], ◌∷◌, ltb, leb, eqb, Float}
+-- The settings: defaults, the seven checks of `validate`, and the limits of the domain. Definitions only.
+use Rattle.std.specs.Prelude.{ℕ, Bool, true, false, not, cond, ◌&&◌, ◌||◌, List, [], ◌∷◌, ltb, leb, eqb, Float, Result, Ok, Err}
 use Rattle.std.specs.Float.{binary32}
 use Rattle.std.specs.Float.Ieee.{lt, le, of_bits}
 use Rattle.numeric.specs.Float.{zero32, one32, finite}
 use Rattle.config.specs.Ledger.{time_check}
-use Rattle.config.specs.Refusal.{Check, when, answer_of, settings_invalid, settings_beyond}
-use Rattle.config.specs.declared.config.ConfigAnswer.{ConfigAnswer}
+use Rattle.config.specs.Refusal.{Check, when}
 use Rattle.config.specs.declared.config.CongestionConfig.{CongestionConfig}
 use Rattle.config.specs.declared.config.EcnMode.{EcnMode}
 use Rattle.config.specs.declared.config.EcnMode.TheVariants.{Off}
+use Rattle.config.specs.declared.config.InvalidSetting.{InvalidSetting}
+use Rattle.config.specs.declared.config.InvalidSetting.TheVariants.{Rates, HardFactor, SoftFactor, ScoreDecay, Thresholds, P0MinShare, RepairBudgetRatio}
 use Rattle.config.specs.declared.config.Priority.{Priority}
 use Rattle.config.specs.declared.config.Priority.TheVariants.{P0, P1, P2}
+use Rattle.config.specs.declared.refusal.Refusal.{Refusal}
+use Rattle.config.specs.declared.refusal.Refusal.TheVariants.{SettingsInvalid, SettingsBeyond, KindUnknown}
 
 -- "class (0 P0 .., 1 P1 .., 2 P2 ..)"
 abbrev pub class_number : Priority → ℕ
 class_number P0 = 0
 class_number P1 = 1
 class_number P2 = 2
+
+-- the class of a digit; "5 unknown kind": from 3 on none
+abbrev pub class_of : ℕ → Result Priority Refusal
+class_of n = cond (eqb n 0) (Ok P0) (cond (eqb n 1) (Ok P1) (cond (eqb n 2) (Ok P2) (Err KindUnknown)))
 
 -- the Rust's `CongestionConfig::default()`; the floats are 0.5, 0.8, 0.90, 0.3 and 0.2 as f32
 abbrev pub defaults : CongestionConfig
@@ -99,16 +106,30 @@ not_in_closed x = lt x zero32 || lt one32 x
 unfoldable pub factor_out : Float → Bool
 factor_out x = not (lt zero32 x && le x one32)
 
--- which of the seven checks of `validate` fails first, from 1; 0 where none does
-unfoldable pub failed_check : CongestionConfig → ℕ
+-- the number of a check of `validate`, from 1
+abbrev pub setting_number : InvalidSetting → ℕ
+setting_number Rates = 1
+setting_number HardFactor = 2
+setting_number SoftFactor = 3
+setting_number ScoreDecay = 4
+setting_number Thresholds = 5
+setting_number P0MinShare = 6
+setting_number RepairBudgetRatio = 7
+
+-- one check of them
+abbrev pub fails_by : InvalidSetting → Bool → Result Unit InvalidSetting
+fails_by x b = cond b (Err x) (Ok tt)
+
+-- which of the seven checks of `validate` fails first
+unfoldable pub failed_check : CongestionConfig → Result Unit InvalidSetting
 failed_check c =
-    cond (ltb c.max_rate_bps c.min_rate_bps) 1
-    (cond (not_in_open_closed c.md_factor_hard) 2
-    (cond (not_in_open_closed c.md_factor_soft) 3
-    (cond (not_in_open c.score_decay) 4
-    (cond (leb c.decrease_threshold c.increase_threshold) 5
-    (cond (not_in_closed c.p0_min_share) 6
-    (cond (not_in_closed c.repair_budget_ratio) 7 0))))))
+    cond (ltb c.max_rate_bps c.min_rate_bps) (Err Rates)
+    (cond (not_in_open_closed c.md_factor_hard) (Err HardFactor)
+    (cond (not_in_open_closed c.md_factor_soft) (Err SoftFactor)
+    (cond (not_in_open c.score_decay) (Err ScoreDecay)
+    (cond (leb c.decrease_threshold c.increase_threshold) (Err Thresholds)
+    (cond (not_in_closed c.p0_min_share) (Err P0MinShare)
+    (cond (not_in_closed c.repair_budget_ratio) (Err RepairBudgetRatio) (Ok tt)))))))
 
 -- "Every rate in the settings, `p0_min_bps` ..: at most 1,000,000,000 bytes per second; `min_rate_bps` .. at least 1"
 unfoldable pub rates_beyond : CongestionConfig → Bool
@@ -133,15 +154,17 @@ unfoldable pub queues_beyond : CongestionConfig → Bool
 queues_beyond c =
     limit_beyond c.max_queue_p0 128 || (limit_beyond c.max_queue_p1 512 || limit_beyond c.max_queue_p2 128)
 
+-- a check failed
+abbrev pub is_invalid : Result Unit InvalidSetting → Bool
+is_invalid (Ok u) = false
+is_invalid (Err e) = true
+
 -- 1: `validate` refuses; 2: settings beyond the domain
 abbrev pub settings_checks : CongestionConfig → List Check
 settings_checks c =
-    when settings_invalid (not (eqb (failed_check c) 0))
-    ∷ when settings_beyond (rates_beyond c || (floats_beyond c || queues_beyond c))
+    when SettingsInvalid (is_invalid (failed_check c))
+    ∷ when SettingsBeyond (rates_beyond c || (floats_beyond c || queues_beyond c))
     ∷ []
-
-unfoldable pub checked_by : CongestionConfig → ConfigAnswer
-checked_by c = record { answer = answer_of (settings_checks c); failed = failed_check c }
 
 -- 1, 2 and 7
 abbrev pub making_checks : CongestionConfig → ℕ → List Check

@@ -1,4 +1,4 @@
 pub mod Refusal
 pub mod Ledger
+pub mod Alone
 pub mod Config
-pub mod Moment

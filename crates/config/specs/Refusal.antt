@@ -1,89 +1,85 @@
--- The numbers under which document 01 turns a call down, and which of several wins. Definitions only.
-use Rattle.std.specs.Prelude.{ℕ, Bool, false, cond, List, [], ◌∷◌, eqb}
+-- Why a call is turned down, under which number, and which reason of several wins. Definitions only.
+use Rattle.std.specs.Prelude.{ℕ, Bool, false, cond, List, [], ◌∷◌, ◌++◌, map, eqb, Result, Ok, Err}
+use Rattle.config.specs.declared.refusal.Refusal.{Refusal}
+use Rattle.config.specs.declared.refusal.Refusal.TheVariants.{SettingsInvalid, SettingsBeyond, RecordTooLong, SampleBeyond, KindUnknown, RateBeyond, TimeBeyond, BufferTooShort, CallsUsedUp, TimeBack, Disabled, WriterUnknown, WriterKnown, TableFull}
 
 abbrev pub accepted : ℕ
 accepted = 0
 
--- "Turned down because of the input"
-abbrev pub settings_invalid : ℕ
-settings_invalid = 1
-
-abbrev pub settings_beyond : ℕ
-settings_beyond = 2
-
-abbrev pub record_too_long : ℕ
-record_too_long = 3
-
-abbrev pub sample_beyond : ℕ
-sample_beyond = 4
-
-abbrev pub kind_unknown : ℕ
-kind_unknown = 5
-
-abbrev pub rate_beyond : ℕ
-rate_beyond = 6
-
-abbrev pub time_beyond : ℕ
-time_beyond = 7
-
-abbrev pub buffer_too_short : ℕ
-buffer_too_short = 8
-
--- "Turned down because of the state"
-abbrev pub calls_used_up : ℕ
-calls_used_up = 17
-
-abbrev pub time_back : ℕ
-time_back = 11
-
-abbrev pub disabled : ℕ
-disabled = 13
-
-abbrev pub writer_unknown : ℕ
-writer_unknown = 15
-
-abbrev pub writer_known : ℕ
-writer_known = 16
-
-abbrev pub table_full : ℕ
-table_full = 14
-
+-- a hand-in that finds the urgent queue full: no refusal, as the call counts as accepted
 abbrev pub queue_full : ℕ
 queue_full = 12
 
+-- "Turned down because of the input" and "because of the state"
+abbrev pub number_of : Refusal → ℕ
+number_of SettingsInvalid = 1
+number_of SettingsBeyond = 2
+number_of RecordTooLong = 3
+number_of SampleBeyond = 4
+number_of KindUnknown = 5
+number_of RateBeyond = 6
+number_of TimeBeyond = 7
+number_of BufferTooShort = 8
+number_of CallsUsedUp = 17
+number_of TimeBack = 11
+number_of Disabled = 13
+number_of WriterUnknown = 15
+number_of WriterKnown = 16
+number_of TableFull = 14
+
 -- "Input first, by number; then the state in the order written"
-abbrev pub order : List ℕ
+abbrev pub order : List Refusal
 order =
-    settings_invalid
-    ∷ settings_beyond
-    ∷ record_too_long
-    ∷ sample_beyond
-    ∷ kind_unknown
-    ∷ rate_beyond
-    ∷ time_beyond
-    ∷ buffer_too_short
-    ∷ calls_used_up
-    ∷ time_back
-    ∷ disabled
-    ∷ writer_unknown
-    ∷ writer_known
-    ∷ table_full
-    ∷ queue_full
+    SettingsInvalid
+    ∷ SettingsBeyond
+    ∷ RecordTooLong
+    ∷ SampleBeyond
+    ∷ KindUnknown
+    ∷ RateBeyond
+    ∷ TimeBeyond
+    ∷ BufferTooShort
+    ∷ CallsUsedUp
+    ∷ TimeBack
+    ∷ Disabled
+    ∷ WriterUnknown
+    ∷ WriterKnown
+    ∷ TableFull
     ∷ []
 
--- a number, and whether it applies to the call at hand
+-- the numbers in that order, and last that of a full queue, which the step itself finds
+abbrev pub numbers : List ℕ
+numbers = map number_of order ++ (queue_full ∷ [])
+
+-- a reason, and whether it applies to the call at hand
 pub data Check : Type 0 where
-  when : ℕ → Bool → Check
+  when : Refusal → Bool → Check
 
-abbrev pub applies : List Check → ℕ → Bool
-applies [] n = false
-applies (when m b ∷ rest) n = cond (eqb n m) b (applies rest n)
+-- a check of its own
+abbrev pub when_result : Refusal → Bool → Result Unit Refusal
+when_result r b = cond b (Err r) (Ok tt)
 
--- the first of the numbers that applies, or 0
-abbrev pub first_of : List ℕ → List Check → ℕ
-first_of [] checks = accepted
-first_of (n ∷ ns) checks = cond (applies checks n) n (first_of ns checks)
+abbrev pub applies : List Check → Refusal → Bool
+applies [] r = false
+applies (when s b ∷ rest) r = cond (eqb (number_of r) (number_of s)) b (applies rest r)
 
--- The answer number of a call, from the numbers that may apply to it: in whatever order they are listed, the first in document 01's order wins.
-unfoldable pub answer_of : List Check → ℕ
-answer_of checks = first_of order checks
+-- the first of the reasons that applies
+abbrev pub first_of : List Refusal → List Check → Result Unit Refusal
+first_of [] checks = Ok tt
+first_of (r ∷ rs) checks = cond (applies checks r) (Err r) (first_of rs checks)
+
+-- The verdict on a call, from the reasons that may apply to it: in whatever order they are listed, the first in the order above wins.
+unfoldable pub verdict_of : List Check → Result Unit Refusal
+verdict_of checks = first_of order checks
+
+-- the number of a call that gives nothing back
+abbrev pub none_number : Unit {0} → ℕ
+none_number u = accepted
+
+-- the number of an answer: the refusal's, or that of what was given back
+abbrev pub result_number : {T : Type 0} → (T → ℕ) → Result T Refusal → ℕ
+result_number f (Ok t) = f t
+result_number f (Err e) = number_of e
+
+-- the number of a verdict
+abbrev pub answer_of : List Check → ℕ
+answer_of checks = result_number none_number (verdict_of checks)

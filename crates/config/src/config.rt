@@ -1,13 +1,14 @@
 // The settings of congestion control and their checks.
-ghost use Rattle.std.specs.Prelude.{◌≡◌, ◌<◌};
-ghost use Rattle.config.specs.Refusal.{answer_of};
-ghost use Rattle.config.specs.Config.{class_number, defaults, without_control, failed_check, not_in_open_closed, not_in_open, not_in_closed, factor_out, rates_beyond, floats_beyond, queues_beyond, limit_beyond, checked_by, making_checks};
+ghost use Rattle.std.specs.Prelude.{◌≡◌};
+ghost use Rattle.config.specs.Refusal.{verdict_of};
+ghost use Rattle.config.specs.Config.{class_number, class_of, setting_number, fails_by, defaults, without_control, failed_check, not_in_open_closed, not_in_open, not_in_closed, factor_out, rates_beyond, floats_beyond, queues_beyond, limit_beyond, settings_checks, making_checks};
 
-use crate::refusal;
+use crate::ledger::check_time;
+use crate::refusal::{LARGEST_RATE, Refusal};
 use numeric::float::is_finite_f32;
 
 // Explicit congestion notification: off, used where it is to be had, or required.
-#[derive(Clone, Copy)]
+#[derive(Clone, Copy, Debug, PartialEq, Eq)]
 pub enum EcnMode {
     Off,
     Opportunistic,
@@ -15,29 +16,75 @@ pub enum EcnMode {
 }
 
 // The class of a record and of a writer: urgent, normal, background.
-#[derive(Clone, Copy)]
+#[derive(Clone, Copy, Debug, PartialEq, Eq, PartialOrd, Ord)]
 pub enum Priority {
-    P0,
-    P1,
-    P2,
+    P0 = 0,
+    P1 = 1,
+    P2 = 2,
 }
 
-impl Priority {
-    // The digit that stands for the class.
-    pub fn number(self) -> u8
-        ensures value { result ≡ class_number self }
-        ensures upper_bound { result < 3 }
-    {
-        match self {
-            Priority::P0 => 0,
-            Priority::P1 => 1,
-            Priority::P2 => 2,
+// The digit that stands for a class.
+impl From<Priority> for u8 {
+    ghost from_gives = { λ class number. number ≡ class_number class };
+
+    fn from(class: Priority) -> u8 {
+        class as u8
+    }
+}
+
+// The class that a digit stands for; from 3 on none, which is 5.
+impl TryFrom<u8> for Priority {
+    type Error = Refusal;
+
+    ghost try_from_gives = { λ number answer. answer ≡ class_of number };
+
+    fn try_from(number: u8) -> Result<Priority, Refusal> {
+        match number {
+            0 => Ok(Priority::P0),
+            1 => Ok(Priority::P1),
+            2 => Ok(Priority::P2),
+            _ => Err(Refusal::KindUnknown),
         }
     }
 }
 
+// Which of the seven checks of settings fails.
+#[derive(Clone, Copy, Debug, PartialEq, Eq)]
+pub enum InvalidSetting {
+    // The least rate is above the largest.
+    Rates = 1,
+    // Outside (0, 1].
+    HardFactor = 2,
+    SoftFactor = 3,
+    // Outside (0, 1).
+    ScoreDecay = 4,
+    // The decrease threshold is not above the increase threshold.
+    Thresholds = 5,
+    // Outside [0, 1].
+    P0MinShare = 6,
+    RepairBudgetRatio = 7,
+}
+
+impl InvalidSetting {
+    // Whether this check fails.
+    fn when(self, fails: bool) -> Result<(), InvalidSetting>
+        ensures { result ≡ fails_by self fails }
+    {
+        if fails { Err(self) } else { Ok(()) }
+    }
+}
+
+// The check's number, from 1.
+impl From<InvalidSetting> for u8 {
+    ghost from_gives = { λ setting number. number ≡ setting_number setting };
+
+    fn from(setting: InvalidSetting) -> u8 {
+        setting as u8
+    }
+}
+
 // The fields that ported calls read, under the Rust's names.
-#[derive(Clone, Copy)]
+#[derive(Clone, Copy, Debug, PartialEq)]
 pub struct CongestionConfig {
     pub enabled: bool,
     // Rates in bytes per second, and the factors of a decrease.
@@ -69,13 +116,6 @@ pub struct CongestionConfig {
     pub p0_min_share: f32,
     pub p0_min_bps: u32,
     pub ecn_mode: EcnMode,
-}
-
-// The answer number of checked settings and, under number 1, which of the seven checks failed, from 1.
-#[derive(Clone, Copy)]
-pub struct ConfigAnswer {
-    pub answer: u8,
-    pub failed: u8,
 }
 
 impl CongestionConfig {
@@ -116,133 +156,78 @@ impl CongestionConfig {
     pub fn disabled() -> CongestionConfig
         ensures { result ≡ without_control }
     {
-        let config = CongestionConfig::new();
         CongestionConfig {
             enabled: false,
-            ..config
+            ..CongestionConfig::new()
         }
     }
 
-    // Which of the seven checks fails first, from 1; 0 where none does. A NaN passes them.
-    pub fn validate(self) -> u8
+    // Which of the seven checks fails first, if one does. A NaN passes them.
+    pub fn validate(self) -> Result<(), InvalidSetting>
         ensures { result ≡ failed_check self }
     {
-        if self.min_rate_bps > self.max_rate_bps {
-            return 1;
-        }
-        if not_in_open_closed(self.md_factor_hard) {
-            return 2;
-        }
-        if not_in_open_closed(self.md_factor_soft) {
-            return 3;
-        }
-        if not_in_open(self.score_decay) {
-            return 4;
-        }
-        if self.decrease_threshold <= self.increase_threshold {
-            return 5;
-        }
-        if not_in_closed(self.p0_min_share) {
-            return 6;
-        }
-        if not_in_closed(self.repair_budget_ratio) {
-            return 7;
-        }
-        0
+        InvalidSetting::Rates.when(self.min_rate_bps > self.max_rate_bps)?;
+        InvalidSetting::HardFactor.when(not_in_open_closed(self.md_factor_hard))?;
+        InvalidSetting::SoftFactor.when(not_in_open_closed(self.md_factor_soft))?;
+        InvalidSetting::ScoreDecay.when(not_in_open(self.score_decay))?;
+        InvalidSetting::Thresholds.when(self.decrease_threshold <= self.increase_threshold)?;
+        InvalidSetting::P0MinShare.when(not_in_closed(self.p0_min_share))?;
+        InvalidSetting::RepairBudgetRatio.when(not_in_closed(self.repair_budget_ratio))
     }
 
-    // The settings as a call takes them: 1 where `validate` refuses, 2 beyond the domain, else 0.
-    pub fn check(self) -> ConfigAnswer
-        ensures { result ≡ checked_by self }
+    // The settings as a call takes them: 1 where `validate` refuses them, 2 beyond the domain.
+    pub fn check(self) -> Result<(), Refusal>
+        ensures { result ≡ verdict_of (settings_checks self) }
     {
-        let failed = self.validate();
-        if failed != 0 {
-            return ConfigAnswer {
-                answer: refusal::SETTINGS_INVALID,
-                failed,
-            };
-        }
-        if self.rates_beyond() {
-            return ConfigAnswer {
-                answer: refusal::SETTINGS_BEYOND,
-                failed: 0,
-            };
-        }
-        if self.floats_beyond() {
-            return ConfigAnswer {
-                answer: refusal::SETTINGS_BEYOND,
-                failed: 0,
-            };
-        }
-        if self.queues_beyond() {
-            return ConfigAnswer {
-                answer: refusal::SETTINGS_BEYOND,
-                failed: 0,
-            };
-        }
-        ConfigAnswer {
-            answer: refusal::ACCEPTED,
-            failed: 0,
-        }
+        Refusal::SettingsInvalid.when(self.validate().is_err())?;
+        let beyond = self.rates_beyond() || self.floats_beyond() || self.queues_beyond();
+        Refusal::SettingsBeyond.when(beyond)
     }
 
-    // 1, 2, 7 or 0: the checks of making something with the settings at a time.
-    pub fn check_making(self, time: u64) -> u8
-        ensures { result ≡ answer_of (making_checks self time) }
+    // The checks of making something with the settings at a time: 1, 2 and 7.
+    #[tactic(auto, unfolding(crate::specs::Refusal::verdict_of))]
+    pub fn check_making(self, time: u64) -> Result<(), Refusal>
+        ensures { result ≡ verdict_of (making_checks self time) }
     {
-        let checked = self.check();
-        if checked.answer != 0 {
-            return checked.answer;
-        }
-        crate::ledger::check_time(time)
+        self.check()?;
+        check_time(time)
     }
 
     fn rates_beyond(self) -> bool
         ensures { result ≡ rates_beyond self }
     {
-        if self.min_rate_bps < 1 {
-            return true;
-        }
-        if self.min_rate_bps > refusal::LARGEST_RATE {
-            return true;
-        }
-        if self.max_rate_bps > refusal::LARGEST_RATE {
-            return true;
-        }
-        if self.ai_step_bps > refusal::LARGEST_RATE {
-            return true;
-        }
-        self.p0_min_bps > refusal::LARGEST_RATE
+        self.min_rate_bps < 1
+            || LARGEST_RATE < self.min_rate_bps
+            || LARGEST_RATE < self.max_rate_bps
+            || LARGEST_RATE < self.ai_step_bps
+            || LARGEST_RATE < self.p0_min_bps
     }
 
     fn floats_beyond(self) -> bool
         ensures { result ≡ floats_beyond self }
     {
-        if !is_finite_f32(self.md_factor_hard) {
-            return true;
-        }
-        if !is_finite_f32(self.md_factor_soft) {
-            return true;
-        }
-        if !is_finite_f32(self.score_decay) {
-            return true;
-        }
-        if !is_finite_f32(self.repair_budget_ratio) {
-            return true;
-        }
-        !is_finite_f32(self.p0_min_share)
+        !is_finite_f32(self.md_factor_hard)
+            || !is_finite_f32(self.md_factor_soft)
+            || !is_finite_f32(self.score_decay)
+            || !is_finite_f32(self.repair_budget_ratio)
+            || !is_finite_f32(self.p0_min_share)
     }
 
     fn queues_beyond(self) -> bool
         ensures { result ≡ queues_beyond self }
     {
-        if limit_beyond(self.max_queue_p0, 128) {
-            return true;
-        }
-        if limit_beyond(self.max_queue_p1, 512) {
-            return true;
-        }
-        limit_beyond(self.max_queue_p2, 128)
+        limit_beyond(self.max_queue_p0, 128)
+            || limit_beyond(self.max_queue_p1, 512)
+            || limit_beyond(self.max_queue_p2, 128)
+    }
+}
+
+// The Rust's defaults.
+impl Default for CongestionConfig {
+    ghost is_default = { λ config. config ≡ defaults };
+
+    fn default() -> CongestionConfig {
+        CongestionConfig::new()
     }
 }
 
@@ -250,49 +235,33 @@ impl CongestionConfig {
 fn not_in_open_closed(x: f32) -> bool
     ensures { result ≡ not_in_open_closed x }
 {
-    if x <= 0.0 {
-        return true;
-    }
-    x > 1.0
+    x <= 0.0 || x > 1.0
 }
 
 // Whether a factor that is given to a call lies outside (0, 1]; a NaN does.
 pub fn factor_out(factor: f32) -> bool
     ensures { result ≡ factor_out factor }
 {
-    if factor > 0.0 {
-        if factor <= 1.0 { false } else { true }
-    } else {
-        true
-    }
+    !(factor > 0.0 && factor <= 1.0)
 }
 
 // Whether a factor lies outside (0, 1).
 fn not_in_open(x: f32) -> bool
     ensures { result ≡ not_in_open x }
 {
-    if x <= 0.0 {
-        return true;
-    }
-    x >= 1.0
+    x <= 0.0 || x >= 1.0
 }
 
 // Whether a share lies outside [0, 1].
 fn not_in_closed(x: f32) -> bool
     ensures { result ≡ not_in_closed x }
 {
-    if x < 0.0 {
-        return true;
-    }
-    x > 1.0
+    x < 0.0 || x > 1.0
 }
 
 // Whether a queue limit lies outside 1 to `most`.
 fn limit_beyond(limit: usize, most: usize) -> bool
     ensures { result ≡ limit_beyond limit most }
 {
-    if limit < 1 {
-        return true;
-    }
-    limit > most
+    limit < 1 || most < limit
 }

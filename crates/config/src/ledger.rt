@@ -1,30 +1,26 @@
 // A module's or a station's count of accepted calls and its last time, and the checks on them.
 ghost use Rattle.std.specs.Prelude.{◌≡◌, ◌∷◌, []};
-ghost use Rattle.config.specs.Refusal.{answer_of};
+ghost use Rattle.config.specs.Refusal.{verdict_of};
 ghost use Rattle.config.specs.Ledger.{opened, resumed, counted, moved, time_check, counted_checks, timed_checks, rate_checks};
 
-use crate::refusal;
+use crate::refusal::{LARGEST_RATE, Refusal};
 
 // The latest time of the domain, 2^62, and the most accepted calls, 2^40.
 pub const LATEST: u64 = 0x4000_0000_0000_0000;
 
 pub const MOST_CALLS: u64 = 0x100_0000_0000;
 
-#[derive(Clone, Copy)]
+#[derive(Clone, Copy, Debug, PartialEq, Eq)]
 pub struct Ledger {
     calls: u64,
     last: u64,
 }
 
-// 7 or 0: the check of making something at a time.
-pub fn check_time(time: u64) -> u8
-    ensures { result ≡ answer_of (time_check time ∷ []) }
+// The check of making something at a time: 7.
+pub fn check_time(time: u64) -> Result<(), Refusal>
+    ensures { result ≡ verdict_of (time_check time ∷ []) }
 {
-    if LATEST < time {
-        refusal::TIME_BEYOND
-    } else {
-        refusal::ACCEPTED
-    }
+    Refusal::TimeBeyond.when(LATEST < time)
 }
 
 impl Ledger {
@@ -42,46 +38,30 @@ impl Ledger {
     pub fn resumed(self, calls: u64) -> Ledger
         ensures { result ≡ resumed self calls }
     {
-        Ledger {
-            calls,
-            last: self.last,
-        }
+        Ledger { calls, ..self }
     }
 
-    // 17 or 0: the checks of a call that takes no time.
-    pub fn check_counted(self) -> u8
-        ensures { result ≡ answer_of (counted_checks self) }
+    // The check of a call that takes no time: 17.
+    pub fn check_counted(self) -> Result<(), Refusal>
+        ensures { result ≡ verdict_of (counted_checks self) }
     {
-        if self.calls >= MOST_CALLS {
-            refusal::CALLS_USED_UP
-        } else {
-            refusal::ACCEPTED
-        }
+        Refusal::CallsUsedUp.when(MOST_CALLS <= self.calls)
     }
 
-    // 7, 17, 11 or 0: the checks of a call at a time.
-    pub fn check_timed(self, time: u64) -> u8
-        ensures { result ≡ answer_of (timed_checks self time) }
+    // The checks of a call at a time: 7, 17 and 11.
+    pub fn check_timed(self, time: u64) -> Result<(), Refusal>
+        ensures { result ≡ verdict_of (timed_checks self time) }
     {
-        if LATEST < time {
-            return refusal::TIME_BEYOND;
-        }
-        if MOST_CALLS <= self.calls {
-            return refusal::CALLS_USED_UP;
-        }
-        if time < self.last {
-            return refusal::TIME_BACK;
-        }
-        refusal::ACCEPTED
+        check_time(time)?;
+        self.check_counted()?;
+        Refusal::TimeBack.when(time < self.last)
     }
 
-    // 6, 7, 17, 11 or 0: the checks of a call that gives a rate at a time.
-    pub fn check_rate(self, time: u64, rate_bps: u32) -> u8
-        ensures { result ≡ answer_of (rate_checks self time rate_bps) }
+    // The checks of a call that gives a rate at a time: 6, 7, 17 and 11.
+    pub fn check_rate(self, time: u64, rate_bps: u32) -> Result<(), Refusal>
+        ensures { result ≡ verdict_of (rate_checks self time rate_bps) }
     {
-        if refusal::LARGEST_RATE < rate_bps {
-            return refusal::RATE_BEYOND;
-        }
+        Refusal::RateBeyond.when(LARGEST_RATE < rate_bps)?;
         self.check_timed(time)
     }
 
@@ -90,8 +70,8 @@ impl Ledger {
         ensures { result ≡ counted self }
     {
         Ledger {
-            calls: numeric::integer::increment(self.calls),
-            last: self.last,
+            calls: self.calls.saturating_add(1),
+            ..self
         }
     }
 
@@ -100,7 +80,7 @@ impl Ledger {
         ensures { result ≡ moved self time }
     {
         Ledger {
-            calls: numeric::integer::increment(self.calls),
+            calls: self.calls.saturating_add(1),
             last: time,
         }
     }

@@ -1,66 +1,74 @@
-// The numbers of document 01 under which a call is turned down; 0 is an accepted call.
-// Their order is `order` of specs/Refusal.antt: input first, by number, then the state in the order written here.
+// Why a call is turned down, and the number of each reason.
 ghost use Rattle.std.specs.Prelude.{◌≡◌, get_or};
-ghost use Rattle.config.specs.Refusal.{order, accepted};
+ghost use Rattle.config.specs.Refusal.{number_of, when_result, numbers, accepted};
 
+// The number of an accepted call.
 pub const ACCEPTED: u8 = 0;
 
-// Because of the input.
-pub const SETTINGS_INVALID: u8 = 1;
-
-pub const SETTINGS_BEYOND: u8 = 2;
-
-pub const RECORD_TOO_LONG: u8 = 3;
-
-pub const SAMPLE_BEYOND: u8 = 4;
-
-pub const KIND_UNKNOWN: u8 = 5;
-
-pub const RATE_BEYOND: u8 = 6;
-
-pub const TIME_BEYOND: u8 = 7;
-
-pub const BUFFER_TOO_SHORT: u8 = 8;
-
-// Because of the state.
-pub const CALLS_USED_UP: u8 = 17;
-
-pub const TIME_BACK: u8 = 11;
-
-pub const DISABLED: u8 = 13;
-
-pub const WRITER_UNKNOWN: u8 = 15;
-
-pub const WRITER_KNOWN: u8 = 16;
-
-pub const TABLE_FULL: u8 = 14;
-
+// The number of a hand-in that a full urgent queue refuses. It is no refusal of the call: that counts as accepted, moves the last time and uses
+// up a sequence number.
 pub const QUEUE_FULL: u8 = 12;
 
 // The largest rate, bucket capacity and byte count of the domain.
 pub const LARGEST_RATE: u32 = 1000000000;
 
-const ORDER: [u8; 15] = [
-    SETTINGS_INVALID,
-    SETTINGS_BEYOND,
-    RECORD_TOO_LONG,
-    SAMPLE_BEYOND,
-    KIND_UNKNOWN,
-    RATE_BEYOND,
-    TIME_BEYOND,
-    BUFFER_TOO_SHORT,
-    CALLS_USED_UP,
-    TIME_BACK,
-    DISABLED,
-    WRITER_UNKNOWN,
-    WRITER_KNOWN,
-    TABLE_FULL,
+// The variants stand in the order in which they are looked at: what the input is to blame for, by number, then the state.
+#[derive(Clone, Copy, Debug, PartialEq, Eq)]
+pub enum Refusal {
+    SettingsInvalid = 1,
+    SettingsBeyond = 2,
+    RecordTooLong = 3,
+    SampleBeyond = 4,
+    KindUnknown = 5,
+    RateBeyond = 6,
+    TimeBeyond = 7,
+    BufferTooShort = 8,
+    CallsUsedUp = 17,
+    TimeBack = 11,
+    Disabled = 13,
+    WriterUnknown = 15,
+    WriterKnown = 16,
+    TableFull = 14,
+}
+
+impl Refusal {
+    // Turns the call down where the reason applies.
+    pub fn when(self, applies: bool) -> Result<(), Refusal>
+        ensures { result ≡ when_result self applies }
+    {
+        if applies { Err(self) } else { Ok(()) }
+    }
+}
+
+impl From<Refusal> for u8 {
+    ghost from_gives = { λ refusal number. number ≡ number_of refusal };
+
+    fn from(refusal: Refusal) -> u8 {
+        refusal as u8
+    }
+}
+
+const IN_ORDER: [u8; 15] = [
+    Refusal::SettingsInvalid as u8,
+    Refusal::SettingsBeyond as u8,
+    Refusal::RecordTooLong as u8,
+    Refusal::SampleBeyond as u8,
+    Refusal::KindUnknown as u8,
+    Refusal::RateBeyond as u8,
+    Refusal::TimeBeyond as u8,
+    Refusal::BufferTooShort as u8,
+    Refusal::CallsUsedUp as u8,
+    Refusal::TimeBack as u8,
+    Refusal::Disabled as u8,
+    Refusal::WriterUnknown as u8,
+    Refusal::WriterKnown as u8,
+    Refusal::TableFull as u8,
     QUEUE_FULL,
 ];
 
 // The numbers in the order in which they are looked at, from place 0, for a host that lists them; 0 beyond the last.
 pub fn in_order(place: usize) -> u8
-    ensures { result ≡ get_or order place accepted }
+    ensures { result ≡ get_or numbers place accepted }
 {
-    if place < 15 { ORDER[place] } else { ACCEPTED }
+    IN_ORDER.get(place).copied().unwrap_or(ACCEPTED)
 }
