@@ -1,40 +1,40 @@
--- The station (document 01, "Station (added)" and the two lists of numbers): what it holds, which numbers may apply to each of its
+-- The station (document 01, "Station (added)" and the two lists of numbers): what it holds, which reasons may apply to each of its
 -- calls, and what each call answers and leaves, worked out from the modules' own steps. Of a record and of the pool only the length
 -- is read; where the bytes go is said apart. Definitions only.
-use Rattle.std.specs.Prelude.{ℕ, ◌+◌, ◌*◌, min, Bool, true, false, cond, List, ◌∷◌, ◌++◌, map, ltb, leb, eqb, Float, get_or, set, replicate, take, drop}
+use Rattle.std.specs.Prelude.{ℕ, ◌+◌, ◌*◌, min, Bool, true, false, cond, List, ◌∷◌, ◌++◌, map, ltb, leb, eqb, Float, get_or, set, replicate, take, drop, Result, Ok, Err}
+use Rattle.config.specs.declared.alone.Left.{Left}
 use Rattle.config.specs.Config.{making_checks}
 use Rattle.config.specs.Ledger.{opened, resumed, moved, timed_checks, rate_checks}
-use Rattle.config.specs.Refusal.{Check, when, answer_of, writer_unknown, writer_known, table_full}
+use Rattle.config.specs.Refusal.{Check, when, verdict_of}
 use Rattle.config.specs.declared.config.CongestionConfig.{CongestionConfig}
 use Rattle.config.specs.declared.config.Priority.{Priority}
 use Rattle.config.specs.declared.ledger.Ledger.{Ledger}
+use Rattle.config.specs.declared.refusal.Refusal.{Refusal}
+use Rattle.config.specs.declared.refusal.Refusal.TheVariants.{WriterUnknown, WriterKnown, TableFull}
 use Rattle.numeric.specs.Search.{first}
 use Rattle.pacing.specs.Pool.{slots_of}
-use Rattle.pacing.specs.Ring.{fate_number}
-use Rattle.pacing.specs.WriterPacer.{pacer_config_of, made, rate_set, enqueue, attempt_by, action_number, send_noted, hand_in_written, hand_in_stored, sent_bytes}
+use Rattle.pacing.specs.WriterPacer.{pacer_config_of, made, rate_set, enqueue, attempt_by, send_noted, hand_in_written, hand_in_stored, sent_bytes}
 use Rattle.pacing.specs.WriterPacerAlone.{zero_pacer}
 use Rattle.pacing.specs.WriterPacerAlone as alone
 use Rattle.pacing.specs.declared.coalescing.InstanceKey.{InstanceKey}
 use Rattle.pacing.specs.declared.pool.Limits.{Limits}
+use Rattle.pacing.specs.declared.ring.Fate.{Fate}
 use Rattle.pacing.specs.declared.writer_pacer.Attempt.{Attempt}
 use Rattle.pacing.specs.declared.writer_pacer.Enqueued.{Enqueued}
 use Rattle.pacing.specs.declared.writer_pacer.PacerConfig.{PacerConfig}
 use Rattle.pacing.specs.declared.writer_pacer.PacerCore.{PacerCore}
 use Rattle.pacing.specs.declared.writer_pacer.SendAction.{SendAction}
-use Rattle.pacing.specs.declared.writer_pacer.SendAction.TheVariants.{Empty}
 use Rattle.signals.specs.RttEstimatorAlone.{sample_checks}
 use Rattle.control.specs.BudgetAllocator.{row_at, place_of, is_known}
 use Rattle.control.specs.Controller.{controller_config_of, on_eagain, on_nacks, on_ecn_tos, new_controller, registered_in, sampled, controller_ticked, controller_set, full_for_peer}
-use Rattle.control.specs.ControllerAlone.{no_config, with_core}
+use Rattle.control.specs.ControllerAlone.{with_core}
 use Rattle.control.specs.declared.budget_allocator.WriterTable.{WriterTable}
 use Rattle.control.specs.declared.controller.CongestionController.{CongestionController}
 use Rattle.control.specs.declared.controller.ControllerTicked.{ControllerTicked}
 use Rattle.control.specs.declared.controller.Marked.{Marked}
 use Rattle.station.specs.declared.roster.Roster.{Roster}
 use Rattle.station.specs.declared.station.Station.{Station}
-use Rattle.station.specs.declared.station.StationAnswer.{StationAnswer}
 use Rattle.station.specs.declared.station.StationConfig.{StationConfig}
-use Rattle.station.specs.declared.station.StationSent.{StationSent}
 use Rattle.station.specs.declared.roster.Writer.{Writer}
 
 -- ---- what it holds
@@ -86,30 +86,30 @@ station_of l c x r words = record { ledger = l; config = c; controller = x; rost
 
 -- ---- answers
 
-abbrev pub answer_with : ℕ → Bool → Station → StationAnswer
-answer_with answer told s = record { answer = answer; told = told; station = s }
+abbrev pub answer_with : {T : Type 0} → Result T Refusal → Station → Left Station T
+answer_with answer s = record { state = s; answer = answer }
 
--- "The result is then zero and state and buffers are unchanged"
-abbrev pub turned_down : Station → ℕ → StationAnswer
-turned_down s answer = answer_with answer false s
+-- "The result is then zero and state and buffers are unchanged": no result, and all as it was
+abbrev pub turned_down : {T : Type 0} → Station → Refusal → Left Station T
+turned_down s e = answer_with (Err e) s
 
--- accepted: what the step left; turned down: the number, and the old state
-unfoldable pub left_by : ℕ → Station → StationAnswer → StationAnswer
-left_by answer s x = cond (eqb answer 0) x (turned_down s answer)
+-- accepted: what the step left and gave; turned down: the reason, and the old state
+unfoldable pub left_by : {T : Type 0} → Result Unit Refusal → Station → Left Station T → Left Station T
+left_by (Ok u) s x = x
+left_by (Err e) s x = turned_down s e
 
 -- ---- making one: 1, 2 and 7
 
 abbrev pub new_station : StationConfig → ℕ → Station
 new_station c time = station_of (opened time) c (new_controller c.controller time) new_roster (replicate 7220 0)
 
--- settings that were turned down
-abbrev pub zero_station : Station
-zero_station = new_station (record { controller = no_config; pacer = zero_pacer.config }) 0
+-- the station, or the reason
+unfoldable pub made_by : Result Unit Refusal → Station → Result Station Refusal
+made_by (Ok u) s = Ok s
+made_by (Err e) s = Err e
 
-unfoldable pub made_station : CongestionConfig → ℕ → StationAnswer
-made_station c time =
-    cond (eqb (answer_of (making_checks c time)) 0) (answer_with 0 false (new_station (station_config_of c) time))
-    (turned_down zero_station (answer_of (making_checks c time)))
+unfoldable pub made_station : CongestionConfig → ℕ → Result Station Refusal
+made_station c time = made_by (verdict_of (making_checks c time)) (new_station (station_config_of c) time)
 
 -- a call count that was kept elsewhere
 abbrev pub resumed_station : Station → ℕ → Station
@@ -119,7 +119,7 @@ resumed_station s calls = station_of (resumed s.ledger calls) s.config s.control
 
 abbrev pub register_checks : Station → ℕ → ℕ → List Check
 register_checks s time id =
-    when writer_known (is_here s.roster id) ∷ when table_full (leb 4 s.roster.count) ∷ timed_checks s.ledger time
+    when WriterKnown (is_here s.roster id) ∷ when TableFull (leb 4 s.roster.count) ∷ timed_checks s.ledger time
 
 -- "A pacer starts at `min_rate_bps`, which counts as a rate setting"
 abbrev pub first_pacer : PacerConfig → ℕ → PacerCore
@@ -130,9 +130,9 @@ register_leaves s time id class =
     station_of (moved s.ledger time) s.config (registered_in s.controller id class)
     (joined s.roster (writer_of id (first_pacer s.config.pacer time))) s.words
 
-unfoldable pub registered_station : Station → ℕ → ℕ → Priority → StationAnswer
+unfoldable pub registered_station : Station → ℕ → ℕ → Priority → Left Station Unit
 registered_station s time id class =
-    left_by (answer_of (register_checks s time id)) s (answer_with 0 false (register_leaves s time id class))
+    left_by (verdict_of (register_checks s time id)) s (answer_with (Ok tt) (register_leaves s time id class))
 
 -- ---- signals: 7, 17 and 11; a sample 4 and 14 too
 
@@ -140,32 +140,33 @@ registered_station s time id class =
 abbrev pub steered : Station → ℕ → CongestionController → Station
 steered s time x = station_of (moved s.ledger time) s.config x s.roster s.words
 
-abbrev pub signalled : Station → ℕ → Bool → CongestionController → StationAnswer
-signalled s time told x = left_by (answer_of (timed_checks s.ledger time)) s (answer_with 0 told (steered s time x))
+abbrev pub signalled : {T : Type 0} → Station → ℕ → T → CongestionController → Left Station T
+signalled s time told x = left_by (verdict_of (timed_checks s.ledger time)) s (answer_with (Ok told) (steered s time x))
 
-unfoldable pub eagain_station : Station → ℕ → StationAnswer
+unfoldable pub eagain_station : Station → ℕ → Left Station Unit
 eagain_station s time =
-    signalled s time false (with_core s.controller (on_eagain s.controller.core s.config.controller))
+    signalled s time tt (with_core s.controller (on_eagain s.controller.core s.config.controller))
 
-unfoldable pub nacks_station : Station → ℕ → ℕ → StationAnswer
+unfoldable pub nacks_station : Station → ℕ → ℕ → Left Station Unit
 nacks_station s time count =
-    signalled s time false (with_core s.controller (on_nacks s.controller.core s.config.controller count))
+    signalled s time tt (with_core s.controller (on_nacks s.controller.core s.config.controller count))
 
-abbrev pub marked_by : Station → ℕ → Marked → StationAnswer
+-- told: whether congestion is signalled
+abbrev pub marked_by : Station → ℕ → Marked → Left Station Bool
 marked_by s time m = signalled s time m.signal (with_core s.controller m.core)
 
-unfoldable pub tos_station : Station → ℕ → ℕ → StationAnswer
+unfoldable pub tos_station : Station → ℕ → ℕ → Left Station Bool
 tos_station s time tos = marked_by s time (on_ecn_tos s.controller.core s.config.controller tos)
 
 -- "14 for a peer is not looked at there", on a disabled station
 abbrev pub rtt_checks : Station → ℕ → ℕ → Float → List Check
 rtt_checks s time peer rtt =
-    when table_full (full_for_peer s.controller s.config.controller peer) ∷ sample_checks s.ledger time rtt
+    when TableFull (full_for_peer s.controller s.config.controller peer) ∷ sample_checks s.ledger time rtt
 
-unfoldable pub rtt_station : Station → ℕ → ℕ → Float → StationAnswer
+unfoldable pub rtt_station : Station → ℕ → ℕ → Float → Left Station Unit
 rtt_station s time peer rtt =
-    left_by (answer_of (rtt_checks s time peer rtt)) s
-    (answer_with 0 false (steered s time (sampled s.controller s.config.controller time peer rtt)))
+    left_by (verdict_of (rtt_checks s time peer rtt)) s
+    (answer_with (Ok tt) (steered s time (sampled s.controller s.config.controller time peer rtt)))
 
 -- ---- ticks and rate settings: 7, 17 and 11; a rate setting 6 too
 
@@ -184,20 +185,21 @@ abbrev pub allotted : Station → ℕ → CongestionController → Station
 allotted s time x =
     station_of (moved s.ledger time) s.config x (budgeted_all s.config.pacer time x.allocator.table s.roster) s.words
 
--- a rate that a tick changed is shared out at once
-abbrev pub tick_leaves : Station → ℕ → ControllerTicked → StationAnswer
+-- a rate that a tick changed is shared out at once; told: whether it did, and the updates are then the allocator's rows
+abbrev pub tick_leaves : Station → ℕ → ControllerTicked → Left Station Bool
 tick_leaves s time t =
-    cond t.changed (answer_with 0 true (allotted s time t.controller)) (answer_with 0 false (steered s time t.controller))
+    cond t.changed (answer_with (Ok true) (allotted s time t.controller)) (answer_with (Ok false) (steered s time t.controller))
 
-unfoldable pub ticked_station : Station → ℕ → StationAnswer
+unfoldable pub ticked_station : Station → ℕ → Left Station Bool
 ticked_station s time =
-    left_by (answer_of (timed_checks s.ledger time)) s
+    left_by (verdict_of (timed_checks s.ledger time)) s
     (tick_leaves s time (controller_ticked s.controller s.config.controller time))
 
-unfoldable pub rated_station : Station → ℕ → ℕ → StationAnswer
+-- a rate that is set is shared out whether it changed or not: the updates are the allocator's rows
+unfoldable pub rated_station : Station → ℕ → ℕ → Left Station Unit
 rated_station s time rate =
-    left_by (answer_of (rate_checks s.ledger time rate)) s
-    (answer_with 0 true (allotted s time (controller_set s.controller s.config.controller time rate)))
+    left_by (verdict_of (rate_checks s.ledger time rate)) s
+    (answer_with (Ok tt) (allotted s time (controller_set s.controller s.config.controller time rate)))
 
 -- ---- hand-ins and send attempts
 
@@ -210,7 +212,7 @@ slots_needed m = 4 * slots_of m
 
 -- 15: no writer has that number
 abbrev pub pacer_check : Station → ℕ → Check
-pacer_check s i = when writer_unknown (leb s.roster.count i)
+pacer_check s i = when WriterUnknown (leb s.roster.count i)
 
 -- what a call on pacer i leaves: all but the ledger, that pacer and the words stay
 abbrev pub paced : Station → ℕ → ℕ → PacerCore → List ℕ → Station
@@ -222,49 +224,47 @@ abbrev pub hand_in_checks : Station → ℕ → ℕ → ℕ → ℕ → List Che
 hand_in_checks s bytes time i n =
     pacer_check s i ∷ alone.hand_in_checks s.ledger s.config.pacer.enabled (slots_needed (limits_in s)) bytes time n
 
-abbrev pub hand_in_answer : Station → ℕ → ℕ → ℕ → ℕ → ℕ
-hand_in_answer s bytes time i n = answer_of (hand_in_checks s bytes time i n)
+abbrev pub hand_in_verdict : Station → ℕ → ℕ → ℕ → ℕ → Result Unit Refusal
+hand_in_verdict s bytes time i n = verdict_of (hand_in_checks s bytes time i n)
 
 abbrev pub enqueued_in : Station → ℕ → Priority → InstanceKey → Enqueued
 enqueued_in s i c key = enqueue (pacer_in s i) s.words i c key
 
--- "12: it counts as an accepted call, moving the last time, and uses up a sequence number"
-abbrev pub hand_in_leaves : Station → ℕ → ℕ → Priority → InstanceKey → ℕ → Enqueued → StationAnswer
+-- "12: it counts as an accepted call, moving the last time, and uses up a sequence number": told is the record's fate, a full P0 queue among them
+abbrev pub hand_in_leaves : Station → ℕ → ℕ → Priority → InstanceKey → ℕ → Enqueued → Left Station Fate
 hand_in_leaves s time i c key n x =
-    answer_with (fate_number x.kept.fate) false (paced s time i x.core (hand_in_written s.words i c x.kept n key))
+    answer_with (Ok x.kept.fate) (paced s time i x.core (hand_in_written s.words i c x.kept n key))
 
-unfoldable pub handed_station : Station → ℕ → ℕ → ℕ → Priority → InstanceKey → ℕ → StationAnswer
+unfoldable pub handed_station : Station → ℕ → ℕ → ℕ → Priority → InstanceKey → ℕ → Left Station Fate
 handed_station s bytes time i c key n =
-    left_by (hand_in_answer s bytes time i n) s (hand_in_leaves s time i c key n (enqueued_in s i c key))
+    left_by (hand_in_verdict s bytes time i n) s (hand_in_leaves s time i c key n (enqueued_in s i c key))
+
+-- a pool after a call that would leave it so
+unfoldable pub pool_by : Result Unit Refusal → List ℕ → List ℕ → List ℕ
+pool_by (Ok u) after pool = after
+pool_by (Err e) after pool = pool
 
 -- the record's bytes go to its slot in a pool
 unfoldable pub pool_handed : Station → ℕ → ℕ → ℕ → Priority → InstanceKey → List ℕ → ℕ → List ℕ → List ℕ
 pool_handed s bytes time i c key sample n pool =
-    cond (eqb (hand_in_answer s bytes time i n) 0) (hand_in_stored pool (limits_in s) i c (enqueued_in s i c key).kept sample) pool
+    pool_by (hand_in_verdict s bytes time i n) (hand_in_stored pool (limits_in s) i c (enqueued_in s i c key).kept sample) pool
 
 -- 7, 8, 17, 11 and 15
 abbrev pub send_checks : Station → ℕ → ℕ → ℕ → List Check
 send_checks s bytes time i = pacer_check s i ∷ alone.send_checks s.ledger (slots_needed (limits_in s)) bytes time
 
-abbrev pub send_answer : Station → ℕ → ℕ → ℕ → ℕ
-send_answer s bytes time i = answer_of (send_checks s bytes time i)
+abbrev pub send_verdict : Station → ℕ → ℕ → ℕ → Result Unit Refusal
+send_verdict s bytes time i = verdict_of (send_checks s bytes time i)
 
 -- with control off the Rust's empty
 abbrev pub attempt_in : Station → ℕ → ℕ → Attempt
 attempt_in s time i = attempt_by s.config.pacer.enabled (pacer_in s i) s.words i time
 
-abbrev pub send_leaves : Station → ℕ → ℕ → Attempt → StationSent
-send_leaves s time i x =
-    record {
-      answer = action_number x.action;
-      action = x.action;
-      station = paced s time i x.core (send_noted s.words i x.action);
-    }
+abbrev pub send_leaves : Station → ℕ → ℕ → Attempt → Left Station SendAction
+send_leaves s time i x = answer_with (Ok x.action) (paced s time i x.core (send_noted s.words i x.action))
 
-unfoldable pub sent_station : Station → ℕ → ℕ → ℕ → StationSent
-sent_station s bytes time i =
-    cond (eqb (send_answer s bytes time i) 0) (send_leaves s time i (attempt_in s time i))
-    (record { answer = send_answer s bytes time i; action = Empty; station = s })
+unfoldable pub sent_station : Station → ℕ → ℕ → ℕ → Left Station SendAction
+sent_station s bytes time i = left_by (send_verdict s bytes time i) s (send_leaves s time i (attempt_in s time i))
 
 -- "A sent record is shown as the middle part of the pool where it was kept."
 abbrev pub shown_bytes : Station → ℕ → SendAction → List ℕ → List ℕ

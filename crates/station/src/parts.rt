@@ -1,16 +1,16 @@
 // The station's calls on the parts that they touch: total, with all their numbers. A loop over calls keeps the parts as locals, so that
 // no call moves what it does not change.
 ghost use Rattle.std.specs.Prelude.{◌≡◌, length};
-ghost use Rattle.config.specs.Refusal.{answer_of};
+ghost use Rattle.config.specs.Refusal.{verdict_of};
 ghost use Rattle.pacing.specs.WriterPacer.{handed_by, words_handed_by, pool_handed_by, sent_by, words_sent_by};
 ghost use Rattle.station.specs.Station.{slots_needed};
-ghost use Rattle.station.specs.Parts.{pacer_after, hand_in_checks_on, send_checks_on, called_core, eagain_core, nacks_core, tos_core, ticked_core, rated_core, sampled_row, sampled_tracker, register_checks_on, registered_parts, shared_out};
+ghost use Rattle.station.specs.Parts.{hand_in_checks_on, send_checks_on, called_core, eagain_core, nacks_core, tos_core, ticked_core, rated_core, sampled_row, sampled_tracker, register_checks_on, registered_parts, shared_out};
 
 use crate::roster::Roster;
 use crate::station::StationConfig;
 use config::config::Priority;
 use config::ledger::Ledger;
-use config::refusal;
+use config::refusal::Refusal;
 use control::budget_allocator::BudgetAllocator;
 use control::controller::{ControllerConfig, ControllerCore};
 use pacing::coalescing::InstanceKey;
@@ -22,36 +22,34 @@ use signals::rtt_estimator::{PeerRow, PeerRttTracker, check_sample, seat_of};
 // The words of four pacers: entries and counts.
 pub const STATION_WORDS: usize = 7220;
 
-// What a signal, a tick or a rate setting leaves of a ledger and a core; `told`: of a TOS byte whether congestion is signalled, of a tick
-// or a rate setting whether the rate is to be shared out.
+// What a signal, a tick or a rate setting answers, and leaves of a ledger and a core.
 #[derive(Clone, Copy)]
-pub struct CoreLeft {
-    pub answer: u8,
-    pub told: bool,
+pub struct CoreLeft<T> {
+    pub answer: Result<T, Refusal>,
     pub ledger: Ledger,
     pub core: ControllerCore,
 }
 
-// What a sample leaves.
+// What a sample answers and leaves.
 #[derive(Clone, Copy)]
 pub struct TrackerLeft {
-    pub answer: u8,
+    pub answer: Result<(), Refusal>,
     pub ledger: Ledger,
     pub tracker: PeerRttTracker,
 }
 
-// What a sample leaves of the row that it goes to.
+// What a sample answers, and leaves of the row that it goes to.
 #[derive(Clone, Copy)]
 pub struct RowLeft {
-    pub answer: u8,
+    pub answer: Result<(), Refusal>,
     pub ledger: Ledger,
     pub row: PeerRow,
 }
 
-// What a register leaves.
+// What a register answers and leaves.
 #[derive(Clone, Copy)]
 pub struct RosterLeft {
-    pub answer: u8,
+    pub answer: Result<(), Refusal>,
     pub ledger: Ledger,
     pub allocator: BudgetAllocator,
     pub roster: Roster,
@@ -71,17 +69,37 @@ fn slots_needed(limits: Limits) -> usize
     4 * limits.slots()
 }
 
-// 15 or 0 after the other numbers of a call on pacer i, of so many registered.
-fn check_pacer(answer: u8, count: u8, i: u8) -> u8
-    ensures { result ≡ pacer_after answer count i }
+// The checks of a hand-in of `length` bytes to pacer i, of so many registered: those of a pacer, and 15.
+fn check_hand_in(
+    ledger: Ledger,
+    config: PacerConfig,
+    count: u8,
+    pool_length: usize,
+    time: u64,
+    i: u8,
+    length: usize,
+) -> Result<(), Refusal>
+    ensures { result ≡ verdict_of (hand_in_checks_on ledger config count pool_length time i length) }
 {
-    if answer != 0 {
-        return answer;
-    }
-    if count <= i {
-        return refusal::WRITER_UNKNOWN;
-    }
-    refusal::ACCEPTED
+    let slots = slots_needed(config.limits());
+    writer_pacer::check_hand_in(ledger, config.enabled(), slots, pool_length, time, length)?;
+    Refusal::WriterUnknown.when(count <= i)
+}
+
+// The checks of a send attempt on pacer i, of so many registered.
+fn check_send(
+    ledger: Ledger,
+    config: PacerConfig,
+    count: u8,
+    pool_length: usize,
+    time: u64,
+    i: u8,
+) -> Result<(), Refusal>
+    ensures { result ≡ verdict_of (send_checks_on ledger config count pool_length time i) }
+{
+    let slots = slots_needed(config.limits());
+    writer_pacer::check_send(ledger, slots, pool_length, time)?;
+    Refusal::WriterUnknown.when(count <= i)
 }
 
 // A hand-in to pacer i of so many registered. The words are a station's STATION_WORDS; of fewer, those that are missing read as 0 and take nothing.
@@ -98,24 +116,16 @@ pub fn hand_in(
     key: InstanceKey,
     sample: &[u8],
 ) -> Handed
-    ensures value { result ≡ handed_by (answer_of (hand_in_checks_on ledger config count (length pool.old) time i (length sample.now))) ledger core words.old time i class key }
-    ensures words_after { words.new ≡ words_handed_by (answer_of (hand_in_checks_on ledger config count (length pool.old) time i (length sample.now))) core words.old i class key (length sample.now) }
-    ensures pool_after { pool.new ≡ pool_handed_by (answer_of (hand_in_checks_on ledger config count (length pool.old) time i (length sample.now))) core words.old config.limits i class key sample.now pool.old }
+    ensures value { result ≡ handed_by (verdict_of (hand_in_checks_on ledger config count (length pool.old) time i (length sample.now))) ledger core words.old time i class key }
+    ensures words_after { words.new ≡ words_handed_by (verdict_of (hand_in_checks_on ledger config count (length pool.old) time i (length sample.now))) core words.old i class key (length sample.now) }
+    ensures pool_after { pool.new ≡ pool_handed_by (verdict_of (hand_in_checks_on ledger config count (length pool.old) time i (length sample.now))) core words.old config.limits i class key sample.now pool.old }
 {
-    let limits = config.limits();
-    let answer = writer_pacer::check_hand_in(
-        ledger,
-        config.enabled(),
-        slots_needed(limits),
-        pool.len(),
-        time,
-        sample.len(),
-    );
+    let verdict = check_hand_in(ledger, config, count, pool.len(), time, i, sample.len());
     writer_pacer::hand_in(
-        check_pacer(answer, count, i),
+        verdict,
         ledger,
         core,
-        limits,
+        config.limits(),
         words,
         pool,
         time,
@@ -137,46 +147,35 @@ pub fn send(
     time: u64,
     i: u8,
 ) -> SendTried
-    ensures value { result ≡ sent_by (answer_of (send_checks_on ledger config count pool_length time i)) config.enabled ledger core words.old time i }
-    ensures words_after { words.new ≡ words_sent_by (answer_of (send_checks_on ledger config count pool_length time i)) config.enabled core words.old time i }
+    ensures value { result ≡ sent_by (verdict_of (send_checks_on ledger config count pool_length time i)) config.enabled ledger core words.old time i }
+    ensures words_after { words.new ≡ words_sent_by (verdict_of (send_checks_on ledger config count pool_length time i)) config.enabled core words.old time i }
 {
-    let slots = slots_needed(config.limits());
-    let answer = writer_pacer::check_send(ledger, slots, pool_length, time);
-    writer_pacer::send(
-        check_pacer(answer, count, i),
-        config.enabled(),
-        ledger,
-        core,
-        words,
-        time,
-        i,
-    )
+    let verdict = check_send(ledger, config, count, pool_length, time, i);
+    writer_pacer::send(verdict, config.enabled(), ledger, core, words, time, i)
 }
 
-// What a call on the core leaves, once the checks have answered.
-fn called(
-    answer: u8,
+// What a call on the core answers and leaves, once the checks have answered; `told` is what it gives where it is accepted.
+fn called<T: Drop>(
+    verdict: Result<(), Refusal>,
     ledger: Ledger,
     core: ControllerCore,
     time: u64,
-    told: bool,
+    told: T,
     after: ControllerCore,
-) -> CoreLeft
-    ensures { result ≡ called_core answer ledger core time told after }
+) -> CoreLeft<T>
+    ensures { result ≡ called_core verdict ledger core time told after }
 {
-    if answer != 0 {
-        return CoreLeft {
-            answer,
-            told: false,
+    match verdict {
+        Ok(()) => CoreLeft {
+            answer: Ok(told),
+            ledger: ledger.moved(time),
+            core: after,
+        },
+        Err(refusal) => CoreLeft {
+            answer: Err(refusal),
             ledger,
             core,
-        };
-    }
-    CoreLeft {
-        answer: 0,
-        told,
-        ledger: ledger.moved(time),
-        core: after,
+        },
     }
 }
 
@@ -185,11 +184,11 @@ pub fn on_eagain(
     config: ControllerConfig,
     core: ControllerCore,
     time: u64,
-) -> CoreLeft
+) -> CoreLeft<()>
     ensures { result ≡ eagain_core ledger config core time }
 {
-    let answer = ledger.check_timed(time);
-    called(answer, ledger, core, time, false, core.on_eagain(config))
+    let verdict = ledger.check_timed(time);
+    called(verdict, ledger, core, time, (), core.on_eagain(config))
 }
 
 pub fn on_nacks(
@@ -198,18 +197,11 @@ pub fn on_nacks(
     core: ControllerCore,
     time: u64,
     count: u32,
-) -> CoreLeft
+) -> CoreLeft<()>
     ensures { result ≡ nacks_core ledger config core time count }
 {
-    let answer = ledger.check_timed(time);
-    called(
-        answer,
-        ledger,
-        core,
-        time,
-        false,
-        core.on_nacks(config, count),
-    )
+    let verdict = ledger.check_timed(time);
+    called(verdict, ledger, core, time, (), core.on_nacks(config, count))
 }
 
 // Told: whether congestion is signalled.
@@ -219,13 +211,13 @@ pub fn on_ecn_tos(
     core: ControllerCore,
     time: u64,
     tos: u8,
-) -> CoreLeft
+) -> CoreLeft<bool>
     ensures { result ≡ tos_core ledger config core time tos }
 {
-    let answer = ledger.check_timed(time);
+    let verdict = ledger.check_timed(time);
     let marked = core.on_ecn_tos(config, tos);
     let after = marked.core;
-    called(answer, ledger, core, time, marked.signal, after)
+    called(verdict, ledger, core, time, marked.signal, after)
 }
 
 // `inflated`: whether a peer is. Told: whether the rate changed, and is to be shared out. Turned down before the core is worked on: to keep
@@ -236,14 +228,12 @@ pub fn tick(
     core: ControllerCore,
     inflated: bool,
     time: u64,
-) -> CoreLeft
+) -> CoreLeft<bool>
     ensures { result ≡ ticked_core ledger config core inflated time }
 {
-    let answer = ledger.check_timed(time);
-    if answer != 0 {
+    if let Err(refusal) = ledger.check_timed(time) {
         return CoreLeft {
-            answer,
-            told: false,
+            answer: Err(refusal),
             ledger,
             core,
         };
@@ -251,8 +241,7 @@ pub fn tick(
     let ticked = core.tick(config, time, inflated);
     let core = ticked.core;
     CoreLeft {
-        answer: 0,
-        told: ticked.changed,
+        answer: Ok(ticked.changed),
         ledger: ledger.moved(time),
         core,
     }
@@ -265,12 +254,12 @@ pub fn set_rate(
     core: ControllerCore,
     time: u64,
     rate_bps: u32,
-) -> CoreLeft
+) -> CoreLeft<()>
     ensures { result ≡ rated_core ledger config core time rate_bps }
 {
-    let answer = ledger.check_rate(time, rate_bps);
+    let verdict = ledger.check_rate(time, rate_bps);
     let after = core.set_rate(config, time, rate_bps);
-    called(answer, ledger, core, time, true, after)
+    called(verdict, ledger, core, time, (), after)
 }
 
 // A rate is shared out among the writers, and each budget reaches its pacer.
@@ -302,32 +291,29 @@ pub fn sample_row(
 ) -> RowLeft
     ensures { result ≡ sampled_row ledger config row at time peer_id rtt_ms }
 {
-    let answer = check_sample(ledger, time, rtt_ms);
-    if answer != 0 {
+    if let Err(refusal) = check_sample(ledger, time, rtt_ms) {
         return RowLeft {
-            answer,
+            answer: Err(refusal),
             ledger,
             row,
         };
     }
     if config.enabled {
-        let entered = row.enter(at, time, peer_id, rtt_ms);
-        let after = entered.row;
-        if entered.full {
-            return RowLeft {
-                answer: refusal::TABLE_FULL,
-                ledger,
+        return match row.enter(at, time, peer_id, rtt_ms) {
+            Some(after) => RowLeft {
+                answer: Ok(()),
+                ledger: ledger.moved(time),
                 row: after,
-            };
-        }
-        return RowLeft {
-            answer: 0,
-            ledger: ledger.moved(time),
-            row: after,
+            },
+            None => RowLeft {
+                answer: Err(Refusal::TableFull),
+                ledger,
+                row,
+            },
         };
     }
     RowLeft {
-        answer: 0,
+        answer: Ok(()),
         ledger: ledger.moved(time),
         row,
     }
@@ -367,21 +353,13 @@ pub fn on_rtt_sample(
     }
 }
 
-// 7, 17, 11, 16, 14 or 0.
-fn check_register(ledger: Ledger, roster: Roster, time: u64, id: u64) -> u8
-    ensures { result ≡ answer_of (register_checks_on ledger roster time id) }
+// The checks of a register: 7, 17, 11, 16 and 14.
+fn check_register(ledger: Ledger, roster: Roster, time: u64, id: u64) -> Result<(), Refusal>
+    ensures { result ≡ verdict_of (register_checks_on ledger roster time id) }
 {
-    let answer = ledger.check_timed(time);
-    if answer != 0 {
-        return answer;
-    }
-    if roster.is_here(id) {
-        return refusal::WRITER_KNOWN;
-    }
-    if 4 <= roster.count() {
-        return refusal::TABLE_FULL;
-    }
-    refusal::ACCEPTED
+    ledger.check_timed(time)?;
+    Refusal::WriterKnown.when(roster.is_here(id))?;
+    Refusal::TableFull.when(4 <= roster.count())
 }
 
 // A writer joins the table and the roster; its pacer starts at the settings' least rate.
@@ -396,10 +374,9 @@ pub fn register(
 ) -> RosterLeft
     ensures { result ≡ registered_parts ledger config allocator roster time id class }
 {
-    let answer = check_register(ledger, roster, time, id);
-    if answer != 0 {
+    if let Err(refusal) = check_register(ledger, roster, time, id) {
         return RosterLeft {
-            answer,
+            answer: Err(refusal),
             ledger,
             allocator,
             roster,
@@ -407,7 +384,7 @@ pub fn register(
     }
     let pacer = PacerCore::with_rate(time, config.limits(), config.min_rate_bps());
     RosterLeft {
-        answer: 0,
+        answer: Ok(()),
         ledger: ledger.moved(time),
         allocator: allocator.register(id, class),
         roster: roster.join(id, pacer),

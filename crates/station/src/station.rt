@@ -1,18 +1,21 @@
-// A station: one controller and up to four writers with a pacer each. The public calls turn down by number; each is a thin shell over the
+// A station: one controller and up to four writers with a pacer each. Each public call is a thin shell over the
 // call on the parts that it touches (parts.rt). What each does is defined in specs/Station.antt.
 ghost use Rattle.std.specs.Prelude.{◌≡◌, length};
-ghost use Rattle.config.specs.Refusal.{answer_of};
+ghost use Rattle.config.specs.Refusal.{verdict_of};
 ghost use Rattle.pacing.specs.WriterPacer.{handed_by, words_handed_by, pool_handed_by, sent_by, words_sent_by, metrics_in, sent_bytes};
-ghost use Rattle.station.specs.Station.{station_config_of, new_station, zero_station, made_station, resumed_station, registered_station, eagain_station, nacks_station, tos_station, rtt_station, ticked_station, rated_station, handed_station, pool_handed, sent_station};
+ghost use Rattle.station.specs.Station.{station_config_of, new_station, made_station, resumed_station, registered_station, eagain_station, nacks_station, tos_station, rtt_station, ticked_station, rated_station, handed_station, pool_handed, sent_station};
 ghost use Rattle.station.specs.Parts.{hand_in_checks_on, send_checks_on, core_left_by, shared_by};
 
 use crate::parts;
 use crate::parts::{CoreLeft, STATION_WORDS};
 use crate::roster::Roster;
+use config::alone::Left;
 use config::config::{CongestionConfig, Priority};
 use config::ledger::Ledger;
+use config::refusal::Refusal;
 use control::controller::{CongestionController, ControllerConfig};
 use pacing::coalescing::InstanceKey;
+use pacing::ring::Fate;
 use pacing::writer_pacer;
 use pacing::writer_pacer::{
     Handed, PacerConfig, PacerCore, SendAction, SendTried, WriterPacerMetrics,
@@ -32,23 +35,6 @@ pub struct Station {
     pub(crate) controller: CongestionController,
     pub(crate) roster: Roster,
     pub(crate) words: [u64; STATION_WORDS],
-}
-
-// What a call other than a send attempt returns: its number; of a TOS byte whether congestion is signalled, and of a tick or a
-// rate setting whether the writers were given new budgets, which the allocator's rows show; and the station.
-#[derive(Clone, Copy)]
-pub struct StationAnswer {
-    pub answer: u8,
-    pub told: bool,
-    pub station: Station,
-}
-
-// What a send attempt returns.
-#[derive(Clone, Copy)]
-pub struct StationSent {
-    pub answer: u8,
-    pub action: SendAction,
-    pub station: Station,
 }
 
 impl StationConfig {
@@ -87,17 +73,6 @@ fn made(config: StationConfig, time: u64) -> Station
     }
 }
 
-// What a making that is turned down gives: every setting 0.
-fn zero() -> Station
-    ensures { result ≡ zero_station }
-{
-    let config = StationConfig {
-        controller: ControllerConfig::zero(),
-        pacer: PacerConfig::zero(),
-    };
-    made(config, 0)
-}
-
 // A hand-in on a station's own words.
 fn hand_in_words(
     ledger: Ledger,
@@ -112,9 +87,9 @@ fn hand_in_words(
     key: InstanceKey,
     sample: &[u8],
 ) -> Handed
-    ensures value { result ≡ handed_by (answer_of (hand_in_checks_on ledger config count (length pool.old) time i (length sample.now))) ledger core words.old time i class key }
-    ensures words_after { words.new ≡ words_handed_by (answer_of (hand_in_checks_on ledger config count (length pool.old) time i (length sample.now))) core words.old i class key (length sample.now) }
-    ensures pool_after { pool.new ≡ pool_handed_by (answer_of (hand_in_checks_on ledger config count (length pool.old) time i (length sample.now))) core words.old config.limits i class key sample.now pool.old }
+    ensures value { result ≡ handed_by (verdict_of (hand_in_checks_on ledger config count (length pool.old) time i (length sample.now))) ledger core words.old time i class key }
+    ensures words_after { words.new ≡ words_handed_by (verdict_of (hand_in_checks_on ledger config count (length pool.old) time i (length sample.now))) core words.old i class key (length sample.now) }
+    ensures pool_after { pool.new ≡ pool_handed_by (verdict_of (hand_in_checks_on ledger config count (length pool.old) time i (length sample.now))) core words.old config.limits i class key sample.now pool.old }
 {
     parts::hand_in(
         ledger, config, count, core, words, pool, time, i, class, key, sample,
@@ -132,30 +107,19 @@ fn send_words(
     time: u64,
     i: u8,
 ) -> SendTried
-    ensures value { result ≡ sent_by (answer_of (send_checks_on ledger config count pool_length time i)) config.enabled ledger core words.old time i }
-    ensures words_after { words.new ≡ words_sent_by (answer_of (send_checks_on ledger config count pool_length time i)) config.enabled core words.old time i }
+    ensures value { result ≡ sent_by (verdict_of (send_checks_on ledger config count pool_length time i)) config.enabled ledger core words.old time i }
+    ensures words_after { words.new ≡ words_sent_by (verdict_of (send_checks_on ledger config count pool_length time i)) config.enabled core words.old time i }
 {
     parts::send(ledger, config, count, core, words, pool_length, time, i)
 }
 
 impl Station {
-    // 1, 2, 7, or a station whose first last time is the time given.
-    pub fn new(config: CongestionConfig, time: u64) -> StationAnswer
+    // Turned down by 1, 2 or 7, or a station whose first last time is the time given.
+    pub fn new(config: CongestionConfig, time: u64) -> Result<Station, Refusal>
         ensures { result ≡ made_station config time }
     {
-        let answer = config.check_making(time);
-        if answer != 0 {
-            return StationAnswer {
-                answer,
-                told: false,
-                station: zero(),
-            };
-        }
-        StationAnswer {
-            answer: 0,
-            told: false,
-            station: made(StationConfig::of(config), time),
-        }
+        config.check_making(time)?;
+        Ok(made(StationConfig::of(config), time))
     }
 
     // The same station with a call count that was kept elsewhere, as over a restart.
@@ -168,7 +132,7 @@ impl Station {
     }
 
     // A writer of a class; its pacer has the next number, from 0.
-    pub fn register(mut self, time: u64, id: u64, class: Priority) -> StationAnswer
+    pub fn register(mut self, time: u64, id: u64, class: Priority) -> Left<Station, ()>
         ensures { result ≡ registered_station self time id class }
     {
         let controller = self.controller;
@@ -191,15 +155,14 @@ impl Station {
             allocator,
         );
         self.roster = roster;
-        StationAnswer {
+        Left {
+            state: self,
             answer: left.answer,
-            told: false,
-            station: self,
         }
     }
 
     // What a call on the core leaves, where no rate is shared out.
-    fn left_by(mut self, left: CoreLeft) -> StationAnswer
+    fn left_by<T: Drop>(mut self, left: CoreLeft<T>) -> Left<Station, T>
         ensures { result ≡ core_left_by self left }
     {
         let controller = self.controller;
@@ -211,21 +174,20 @@ impl Station {
             controller.tracker(),
             controller.allocator(),
         );
-        StationAnswer {
+        Left {
+            state: self,
             answer: left.answer,
-            told: left.told,
-            station: self,
         }
     }
 
-    pub fn on_eagain(self, time: u64) -> StationAnswer
+    pub fn on_eagain(self, time: u64) -> Left<Station, ()>
         ensures { result ≡ eagain_station self time }
     {
         let core = self.controller.core();
         self.left_by(parts::on_eagain(self.ledger, self.config.controller, core, time))
     }
 
-    pub fn on_nacks(self, time: u64, count: u32) -> StationAnswer
+    pub fn on_nacks(self, time: u64, count: u32) -> Left<Station, ()>
         ensures { result ≡ nacks_station self time count }
     {
         let core = self.controller.core();
@@ -233,14 +195,14 @@ impl Station {
     }
 
     // Told: whether congestion is signalled.
-    pub fn on_ecn_tos(self, time: u64, tos: u8) -> StationAnswer
+    pub fn on_ecn_tos(self, time: u64, tos: u8) -> Left<Station, bool>
         ensures { result ≡ tos_station self time tos }
     {
         let core = self.controller.core();
         self.left_by(parts::on_ecn_tos(self.ledger, self.config.controller, core, time, tos))
     }
 
-    pub fn on_rtt_sample(mut self, time: u64, peer_id: u32, rtt_ms: f32) -> StationAnswer
+    pub fn on_rtt_sample(mut self, time: u64, peer_id: u32, rtt_ms: f32) -> Left<Station, ()>
         ensures { result ≡ rtt_station self time peer_id rtt_ms }
     {
         let controller = self.controller;
@@ -260,18 +222,23 @@ impl Station {
             tracker,
             controller.allocator(),
         );
-        StationAnswer {
+        Left {
+            state: self,
             answer: left.answer,
-            told: false,
-            station: self,
         }
     }
 
     // What a call on the core leaves, and a rate that it gives to be shared out.
-    fn shared_by(mut self, left: CoreLeft, time: u64, rate_bps: u32) -> StationAnswer
-        ensures { result ≡ shared_by self left time rate_bps }
+    fn shared_by<T: Drop>(
+        mut self,
+        left: CoreLeft<T>,
+        shared: bool,
+        time: u64,
+        rate_bps: u32,
+    ) -> Left<Station, T>
+        ensures { result ≡ shared_by self left shared time rate_bps }
     {
-        if left.told {
+        if shared {
             let controller = self.controller;
             let shared = parts::share_out(
                 self.config,
@@ -294,7 +261,7 @@ impl Station {
     }
 
     // Told: whether the rate changed; the updates are then the allocator's rows.
-    pub fn tick(self, time: u64) -> StationAnswer
+    pub fn tick(self, time: u64) -> Left<Station, bool>
         ensures { result ≡ ticked_station self time }
     {
         let controller = self.controller;
@@ -307,19 +274,20 @@ impl Station {
             time,
         );
         let core = left.core;
-        self.shared_by(left, time, core.rate())
+        let changed = left.answer.unwrap_or(false);
+        self.shared_by(left, changed, time, core.rate())
     }
 
-    // Told where it is accepted: the updates are then the allocator's rows.
-    pub fn set_rate(self, time: u64, rate_bps: u32) -> StationAnswer
+    // Where it is accepted, the updates are the allocator's rows.
+    pub fn set_rate(self, time: u64, rate_bps: u32) -> Left<Station, ()>
         ensures { result ≡ rated_station self time rate_bps }
     {
         let core = self.controller.core();
         let left = parts::set_rate(self.ledger, self.config.controller, core, time, rate_bps);
-        self.shared_by(left, time, rate_bps)
+        self.shared_by(left, left.answer.is_ok(), time, rate_bps)
     }
 
-    // A record to pacer i; the key is P2's. The lent pool is owed as the last call left it.
+    // A record to pacer i; the key is P2's. The lent pool is owed as the last call left it. Told: what became of the record, `Full` among it.
     pub fn hand_in(
         mut self,
         pool: &mut [u8],
@@ -328,7 +296,7 @@ impl Station {
         class: Priority,
         key: InstanceKey,
         sample: &[u8],
-    ) -> StationAnswer
+    ) -> Left<Station, Fate>
         ensures value { result ≡ handed_station self (length pool.old) time i class key (length sample.now) }
         ensures pool_after { pool.new ≡ pool_handed self (length pool.old) time i class key sample.now (length sample.now) pool.old }
     {
@@ -350,15 +318,14 @@ impl Station {
         let core = handed.core;
         self.ledger = ledger;
         self.roster = roster.with_pacer(i, core);
-        StationAnswer {
+        Left {
+            state: self,
             answer: handed.answer,
-            told: false,
-            station: self,
         }
     }
 
     // What pacer i sends next; `sent_bytes` shows the bytes of a sent record.
-    pub fn send(mut self, pool: &[u8], time: u64, i: u8) -> StationSent
+    pub fn send(mut self, pool: &[u8], time: u64, i: u8) -> Left<Station, SendAction>
         ensures { result ≡ sent_station self (length pool.now) time i }
     {
         let roster = self.roster;
@@ -374,13 +341,11 @@ impl Station {
         );
         let ledger = tried.ledger;
         let core = tried.core;
-        let action = tried.action;
         self.ledger = ledger;
         self.roster = roster.with_pacer(i, core);
-        StationSent {
+        Left {
+            state: self,
             answer: tried.answer,
-            action,
-            station: self,
         }
     }
 
