@@ -1,8 +1,8 @@
--- Explicit congestion notification (RFC 3168; document 01, ecn.rs). Definitions only.
+-- Explicit congestion notification (RFC 3168). Definitions only.
 use Rattle.std.specs.Prelude.{ℕ, ◌%◌, Bool, true, false, cond, leb, eqb, pos}
 use Rattle.std.specs.Float.{binary64}
 use Rattle.std.specs.Float.Ieee.{of_int, of_bits, div, le}
-use Rattle.numeric.specs.Integer.{next, next_u32 as nextInWindow}
+use Rattle.numeric.specs.Integer.{next, next_u32 as next_in_window}
 use Rattle.signals.specs.declared.ecn.EcnCodepoint.{EcnCodepoint}
 use Rattle.signals.specs.declared.ecn.EcnCodepoint.TheVariants.{NotEct, Ect1, Ect0, Ce}
 use Rattle.signals.specs.declared.ecn.EcnProcessor.{EcnProcessor}
@@ -68,9 +68,9 @@ new_processor = processor_of no_stats 0 0
 unfoldable pub counted : EcnProcessor → EcnCodepoint → EcnProcessor
 counted p c =
     cond (is_ce c)
-    (processor_of (recorded p.stats c) (nextInWindow p.ce_in_window) (nextInWindow p.packets_in_window))
+    (processor_of (recorded p.stats c) (next_in_window p.ce_in_window) (next_in_window p.packets_in_window))
     (cond (is_ect c)
-    (processor_of (recorded p.stats c) p.ce_in_window (nextInWindow p.packets_in_window))
+    (processor_of (recorded p.stats c) p.ce_in_window (next_in_window p.packets_in_window))
     (processor_of (recorded p.stats c) p.ce_in_window p.packets_in_window))
 
 -- "A window of 100 signals when CE/packets, in f64, is at least 0.01" (0x3f847ae147ae147b)

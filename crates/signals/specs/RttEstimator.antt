@@ -1,14 +1,11 @@
--- Round-trip times (document 01, rtt_estimator.rs; RFC 6298, section 2): f32, alpha 0.125, beta 0.25. Definitions only.
-use Rattle.std.specs.Prelude.{ℕ, ◌+◌, min, Bool, true, false, cond, List, ltb, leb, eqb, Float, get_or, set, replicate}
+-- Round-trip times (RFC 6298, section 2): f32, alpha 0.125, beta 0.25. Definitions only.
+use Rattle.std.specs.Prelude.{ℕ, ◌+◌, min, Bool, true, false, cond, List, Option, Some, None, ltb, leb, eqb, Float, get_or, set, replicate}
 use Rattle.std.specs.Float.{nan, binary32}
 use Rattle.std.specs.Float.Ieee.{of_bits, add, sub, mul, div, lt}
-use Rattle.config.specs.declared.moment.Moment.{Moment}
-use Rattle.config.specs.declared.moment.Moment.TheVariants.{Never, At}
 use Rattle.numeric.specs.Float.{max_of, abs_of}
 use Rattle.numeric.specs.Search.{first}
 use Rattle.signals.specs.declared.rtt_estimator.PeerRow.{PeerRow}
 use Rattle.signals.specs.declared.rtt_estimator.PeerRttTracker.{PeerRttTracker}
-use Rattle.signals.specs.declared.rtt_estimator.RowEntered.{RowEntered}
 use Rattle.signals.specs.declared.rtt_estimator.RttEstimator.{RttEstimator}
 
 abbrev zero32 : Float
@@ -31,19 +28,19 @@ abbrev pub one : Float
 one = of_bits binary32 0x3f80_0000
 
 -- the average, the least, the variance, the number of samples and the time of the last
-abbrev pub estimator_of : Float → Float → Float → ℕ → Moment → RttEstimator
+abbrev pub estimator_of : Float → Float → Float → ℕ → Option ℕ → RttEstimator
 estimator_of rtt least var samples last =
     record { rtt_ms = rtt; rtt_min_ms = least; rtt_var_ms = var; samples = samples; last_sample = last }
 
 abbrev pub new_estimator : Float → RttEstimator
-new_estimator x = estimator_of x x zero32 0 Never
+new_estimator x = estimator_of x x zero32 0 None
 
 abbrev pub lesser_of : Float → Float → Float
 lesser_of x least = cond (lt x least) x least
 
 -- RFC 6298, 2.2: the first sample is the average, and half of it the variance
 abbrev pub first_sample : ℕ → Float → RttEstimator
-first_sample time x = estimator_of x x (div binary32 x two) 1 (At time)
+first_sample time x = estimator_of x x (div binary32 x two) 1 (Some time)
 
 -- RFC 6298, 2.3: "One difference from the old average feeds both updates"
 abbrev pub next_average : Float → Float → Float
@@ -57,7 +54,7 @@ next_sample e time x =
     estimator_of (next_average e.rtt_ms (sub binary32 x e.rtt_ms)) (lesser_of x e.rtt_min_ms)
     (next_variance e.rtt_var_ms (sub binary32 x e.rtt_ms))
     (min (e.samples + 1) 18446744073709551615)
-    (At time)
+    (Some time)
 
 unfoldable pub updated : RttEstimator → ℕ → Float → RttEstimator
 updated e time x = cond (eqb e.samples 0) (first_sample time x) (next_sample e time x)
@@ -88,7 +85,7 @@ place_of ids count id = first (λ (k : ℕ). eqb (get_or ids k 0) id) (known_of 
 
 -- what the language's reading gives beyond an array's end; no place taken lies there
 abbrev pub no_estimator : RttEstimator
-no_estimator = estimator_of nan nan nan 0 Never
+no_estimator = estimator_of nan nan nan 0 None
 
 abbrev pub estimator_at : PeerRttTracker → ℕ → RttEstimator
 estimator_at t k = get_or t.peers k no_estimator
@@ -122,8 +119,12 @@ unfoldable pub full_for : PeerRttTracker → ℕ → Bool
 full_for t id =
     cond (ltb (place_of t.ids t.count id) (known_of t.count)) false (leb 64 (known_of t.count))
 
+-- a sample, where the table is not full for its peer
+unfoldable pub tracker_entered : PeerRttTracker → ℕ → ℕ → Float → Option PeerRttTracker
+tracker_entered t time id x = cond (full_for t id) None (Some (tracker_updated t time id x))
+
 -- ---- the same on one row of the table, for a loop that keeps the table and hands on a row. Nothing new: on the row at `seat_of` a sample comes to
--- `tracker_updated` and `full_for` (`row_like`, proofs/Peers.antt)
+-- `tracker_entered` (`row_like`, proofs/Peers.antt)
 
 abbrev pub row_of : ℕ → RttEstimator → ℕ → Float → PeerRow
 row_of id e count x = record { id = id; estimator = e; count = count; default_ms = x }
@@ -138,15 +139,12 @@ row_at t k = row_of (get_or t.ids k 0) (estimator_at t k) t.count t.default_ms
 abbrev pub with_row : PeerRttTracker → ℕ → PeerRow → PeerRttTracker
 with_row t k r = tracker_of (set t.ids k r.id) (set t.peers k r.estimator) r.count t.default_ms
 
-abbrev pub row_with : PeerRow → Bool → RowEntered
-row_with r full = record { row = r; full = full }
-
 -- row k after a peer's sample: behind the last row the peer is new, in its own row it has one sample more, and another's row stays: the table is full
-unfoldable pub row_entered : PeerRow → ℕ → ℕ → ℕ → Float → RowEntered
+unfoldable pub row_entered : PeerRow → ℕ → ℕ → ℕ → Float → Option PeerRow
 row_entered r k time id x =
     cond (leb (known_of r.count) k)
-    (row_with (row_of id (updated (new_estimator r.default_ms) time x) (known_of r.count + 1) r.default_ms) false)
-    (cond (eqb r.id id) (row_with (row_of r.id (updated r.estimator time x) r.count r.default_ms) false) (row_with r true))
+    (Some (row_of id (updated (new_estimator r.default_ms) time x) (known_of r.count + 1) r.default_ms))
+    (cond (eqb r.id id) (Some (row_of r.id (updated r.estimator time x) r.count r.default_ms)) None)
 
 abbrev pub inflated_at : PeerRttTracker → ℕ → Bool
 inflated_at t k = inflated (estimator_at t k)

@@ -1,21 +1,18 @@
 // Explicit congestion notification: codepoints, counts, and the window of marks that signals congestion.
 ghost use Rattle.std.specs.Prelude.{◌≡◌};
 ghost use Rattle.signals.specs.Ecn.{codepoint_of, tos_of, is_ect, is_ce, no_stats, recorded, responded, new_processor, counted, window_signals, closed, processed_tos, processed_ce};
-ghost use Rattle.signals.specs.EcnAlone.{new_alone, resumed_alone, answered_by, tos_alone, ce_alone};
-
-use config::ledger::Ledger;
 
 // The two low bits of the TOS byte (RFC 3168, section 5).
-#[derive(Clone, Copy)]
+#[derive(Clone, Copy, Debug, PartialEq, Eq)]
 pub enum EcnCodepoint {
-    NotEct,
-    Ect1,
-    Ect0,
-    Ce,
+    NotEct = 0,
+    Ect1 = 1,
+    Ect0 = 2,
+    Ce = 3,
 }
 
 // Packets received, by codepoint, and the windows or marks that were signalled.
-#[derive(Clone, Copy)]
+#[derive(Clone, Copy, Debug, PartialEq, Eq, Default)]
 pub struct EcnStats {
     pub packets_received: u64,
     pub ect0_received: u64,
@@ -26,7 +23,7 @@ pub struct EcnStats {
 }
 
 // The counts, and the marks and packets of the current window.
-#[derive(Clone, Copy)]
+#[derive(Clone, Copy, Debug, PartialEq, Eq)]
 pub struct EcnProcessor {
     pub(crate) stats: EcnStats,
     pub(crate) ce_in_window: u32,
@@ -34,7 +31,7 @@ pub struct EcnProcessor {
 }
 
 // A processor, and whether congestion is to be signalled.
-#[derive(Clone, Copy)]
+#[derive(Clone, Copy, Debug, PartialEq, Eq)]
 pub struct Processed {
     pub processor: EcnProcessor,
     pub signal: bool,
@@ -43,53 +40,41 @@ pub struct Processed {
 // Packets in a window.
 const WINDOW_SIZE: u32 = 100;
 
+// The codepoint of a TOS byte.
+impl From<u8> for EcnCodepoint {
+    ghost from_gives = { λ tos codepoint. codepoint ≡ codepoint_of tos };
+
+    fn from(tos: u8) -> EcnCodepoint {
+        match tos % 4 {
+            0 => EcnCodepoint::NotEct,
+            1 => EcnCodepoint::Ect1,
+            2 => EcnCodepoint::Ect0,
+            _ => EcnCodepoint::Ce,
+        }
+    }
+}
+
+// The two low bits that stand for a codepoint.
+impl From<EcnCodepoint> for u8 {
+    ghost from_gives = { λ codepoint tos. tos ≡ tos_of codepoint };
+
+    fn from(codepoint: EcnCodepoint) -> u8 {
+        codepoint as u8
+    }
+}
+
 impl EcnCodepoint {
-    pub fn from_tos(tos: u8) -> EcnCodepoint
-        ensures { result ≡ codepoint_of tos }
-    {
-        let bits = tos % 4;
-        if bits == 0 {
-            EcnCodepoint::NotEct
-        } else if bits == 1 {
-            EcnCodepoint::Ect1
-        } else if bits == 2 {
-            EcnCodepoint::Ect0
-        } else {
-            EcnCodepoint::Ce
-        }
-    }
-
-    pub fn to_tos(self) -> u8
-        ensures { result ≡ tos_of self }
-    {
-        match self {
-            EcnCodepoint::NotEct => 0,
-            EcnCodepoint::Ect1 => 1,
-            EcnCodepoint::Ect0 => 2,
-            EcnCodepoint::Ce => 3,
-        }
-    }
-
     pub fn is_congestion_experienced(self) -> bool
         ensures { result ≡ is_ce self }
     {
-        match self {
-            EcnCodepoint::NotEct => false,
-            EcnCodepoint::Ect1 => false,
-            EcnCodepoint::Ect0 => false,
-            EcnCodepoint::Ce => true,
-        }
+        matches!(self, EcnCodepoint::Ce)
     }
 
+    // Not-ECT is in no window.
     pub fn is_ecn_capable(self) -> bool
         ensures { result ≡ is_ect self }
     {
-        match self {
-            EcnCodepoint::NotEct => false, // in no window
-            EcnCodepoint::Ect1 => true,
-            EcnCodepoint::Ect0 => true,
-            EcnCodepoint::Ce => false,
-        }
+        matches!(self, EcnCodepoint::Ect1 | EcnCodepoint::Ect0)
     }
 }
 
@@ -97,54 +82,34 @@ impl EcnStats {
     pub fn new() -> EcnStats
         ensures { result ≡ no_stats }
     {
-        EcnStats {
-            packets_received: 0,
-            ect0_received: 0,
-            ect1_received: 0,
-            ce_received: 0,
-            not_ect_received: 0,
-            ce_responded: 0,
-        }
+        EcnStats::default()
     }
 
     // One packet more, under its codepoint.
     pub fn record_packet(self, codepoint: EcnCodepoint) -> EcnStats
         ensures { result ≡ recorded self codepoint }
     {
-        let packets_received = numeric::integer::increment(self.packets_received);
+        let stats = EcnStats {
+            packets_received: self.packets_received.saturating_add(1),
+            ..self
+        };
         match codepoint {
-            EcnCodepoint::NotEct => {
-                let n = numeric::integer::increment(self.not_ect_received);
-                EcnStats {
-                    packets_received,
-                    not_ect_received: n,
-                    ..self
-                }
-            }
-            EcnCodepoint::Ect1 => {
-                let n = numeric::integer::increment(self.ect1_received);
-                EcnStats {
-                    packets_received,
-                    ect1_received: n,
-                    ..self
-                }
-            }
-            EcnCodepoint::Ect0 => {
-                let n = numeric::integer::increment(self.ect0_received);
-                EcnStats {
-                    packets_received,
-                    ect0_received: n,
-                    ..self
-                }
-            }
-            EcnCodepoint::Ce => {
-                let n = numeric::integer::increment(self.ce_received);
-                EcnStats {
-                    packets_received,
-                    ce_received: n,
-                    ..self
-                }
-            }
+            EcnCodepoint::NotEct => EcnStats {
+                not_ect_received: self.not_ect_received.saturating_add(1),
+                ..stats
+            },
+            EcnCodepoint::Ect1 => EcnStats {
+                ect1_received: self.ect1_received.saturating_add(1),
+                ..stats
+            },
+            EcnCodepoint::Ect0 => EcnStats {
+                ect0_received: self.ect0_received.saturating_add(1),
+                ..stats
+            },
+            EcnCodepoint::Ce => EcnStats {
+                ce_received: self.ce_received.saturating_add(1),
+                ..stats
+            },
         }
     }
 
@@ -153,7 +118,7 @@ impl EcnStats {
         ensures { result ≡ responded self }
     {
         EcnStats {
-            ce_responded: numeric::integer::increment(self.ce_responded),
+            ce_responded: self.ce_responded.saturating_add(1),
             ..self
         }
     }
@@ -175,7 +140,7 @@ impl EcnProcessor {
     pub fn process_tos(self, tos: u8) -> Processed
         ensures { result ≡ processed_tos self tos }
     {
-        let p = self.count_packet(EcnCodepoint::from_tos(tos));
+        let p = self.count_packet(EcnCodepoint::from(tos));
         if p.packets_in_window >= WINDOW_SIZE {
             p.close_window()
         } else {
@@ -194,8 +159,7 @@ impl EcnProcessor {
         Processed {
             processor: EcnProcessor {
                 stats: stats.record_ce_response(),
-                ce_in_window: self.ce_in_window,
-                packets_in_window: self.packets_in_window,
+                ..self
             },
             signal: true,
         }
@@ -206,26 +170,21 @@ impl EcnProcessor {
         ensures { result ≡ counted self codepoint }
     {
         let stats = self.stats.record_packet(codepoint);
-        let ce = self.ce_in_window;
-        let packets = self.packets_in_window;
+        let packets_in_window = self.packets_in_window.saturating_add(1);
         if codepoint.is_congestion_experienced() {
-            return EcnProcessor {
+            EcnProcessor {
                 stats,
-                ce_in_window: numeric::integer::increment_u32(ce),
-                packets_in_window: numeric::integer::increment_u32(packets),
-            };
-        }
-        if codepoint.is_ecn_capable() {
-            return EcnProcessor {
+                ce_in_window: self.ce_in_window.saturating_add(1),
+                packets_in_window,
+            }
+        } else if codepoint.is_ecn_capable() {
+            EcnProcessor {
                 stats,
-                ce_in_window: ce,
-                packets_in_window: numeric::integer::increment_u32(packets),
-            };
-        }
-        EcnProcessor {
-            stats,
-            ce_in_window: ce,
-            packets_in_window: packets,
+                packets_in_window,
+                ..self
+            }
+        } else {
+            EcnProcessor { stats, ..self }
         }
     }
 
@@ -242,23 +201,22 @@ impl EcnProcessor {
     fn close_window(self) -> Processed
         ensures { result ≡ closed self }
     {
+        let emptied = EcnProcessor {
+            ce_in_window: 0,
+            packets_in_window: 0,
+            ..self
+        };
         if self.check_window() {
             Processed {
                 processor: EcnProcessor {
                     stats: self.stats.record_ce_response(),
-                    ce_in_window: 0,
-                    packets_in_window: 0,
+                    ..emptied
                 },
                 signal: true,
             }
         } else {
-            let stats = self.stats;
             Processed {
-                processor: EcnProcessor {
-                    stats,
-                    ce_in_window: 0,
-                    packets_in_window: 0,
-                },
+                processor: emptied,
                 signal: false,
             }
         }
@@ -280,90 +238,5 @@ impl EcnProcessor {
         ensures { result ≡ self.packets_in_window }
     {
         self.packets_in_window
-    }
-}
-
-// A processor used alone, with its own call count: the public calls, which turn down by number.
-#[derive(Clone, Copy)]
-pub struct EcnProcessorAlone {
-    ledger: Ledger,
-    processor: EcnProcessor,
-}
-
-// The answer number, the signal (false where the call is turned down) and what a call leaves.
-#[derive(Clone, Copy)]
-pub struct EcnAnswer {
-    pub answer: u8,
-    pub signal: bool,
-    pub alone: EcnProcessorAlone,
-}
-
-impl EcnProcessorAlone {
-    pub fn new() -> EcnProcessorAlone
-        ensures { result ≡ new_alone }
-    {
-        EcnProcessorAlone {
-            ledger: Ledger::new(0),
-            processor: EcnProcessor::new(),
-        }
-    }
-
-    // The same processor with a call count that was kept elsewhere, as over a restart.
-    pub fn resumed(self, calls: u64) -> EcnProcessorAlone
-        ensures { result ≡ resumed_alone self calls }
-    {
-        let processor = self.processor;
-        EcnProcessorAlone {
-            ledger: self.ledger.resumed(calls),
-            processor,
-        }
-    }
-
-    pub fn process_tos(self, tos: u8) -> EcnAnswer
-        ensures { result ≡ tos_alone self tos }
-    {
-        let answer = self.ledger.check_counted();
-        self.answered_by(answer, self.processor.process_tos(tos))
-    }
-
-    pub fn process_ce(self) -> EcnAnswer
-        ensures { result ≡ ce_alone self }
-    {
-        let answer = self.ledger.check_counted();
-        self.answered_by(answer, self.processor.process_ce())
-    }
-
-    // What an accepted call gives and leaves, or the number and the old state; the step is pure, so nothing is lost where the call is turned down.
-    fn answered_by(self, answer: u8, processed: Processed) -> EcnAnswer
-        ensures { result ≡ answered_by answer self processed }
-    {
-        if answer != 0 {
-            return EcnAnswer {
-                answer,
-                signal: false,
-                alone: self,
-            };
-        }
-        let processor = processed.processor;
-        EcnAnswer {
-            answer: 0,
-            signal: processed.signal,
-            alone: EcnProcessorAlone {
-                ledger: self.ledger.counted(),
-                processor,
-            },
-        }
-    }
-
-    pub fn ledger(self) -> Ledger
-        ensures { result ≡ self.ledger }
-    {
-        self.ledger
-    }
-
-    pub fn processor(self) -> EcnProcessor
-        ensures { result ≡ self.processor }
-    {
-        self.processor
     }
 }
