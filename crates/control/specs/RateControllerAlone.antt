@@ -1,15 +1,18 @@
--- A rate controller used alone: the numbers that may apply to each call, and what it answers and leaves. Definitions only.
-use Rattle.std.specs.Prelude.{ℕ, Bool, false, cond, ◌||◌, List, [], ◌∷◌, ltb, eqb}
+-- A rate controller used alone: the reasons that may apply to each call, and what it leaves and answers. Definitions only.
+use Rattle.std.specs.Prelude.{ℕ, Bool, ◌||◌, List, [], ◌∷◌, ltb, Result}
+use Rattle.config.specs.Alone.{answered, made_or}
 use Rattle.config.specs.Config.{factor_out}
-use Rattle.config.specs.Ledger.{opened, resumed, moved, time_check, timed_checks, rate_checks}
-use Rattle.config.specs.Refusal.{Check, when, answer_of, settings_beyond, rate_beyond}
-use Rattle.config.specs.declared.ledger.Ledger.{Ledger}
-use Rattle.control.specs.RateController.{no_params, with_params, applied, rate_set}
+use Rattle.config.specs.Ledger.{moved, time_check, timed_checks, rate_checks}
+use Rattle.config.specs.Refusal.{Check, when, verdict_of}
+use Rattle.config.specs.declared.alone.Alone.{Alone}
+use Rattle.config.specs.declared.alone.Left.{Left}
+use Rattle.config.specs.declared.refusal.Refusal.{Refusal}
+use Rattle.config.specs.declared.refusal.Refusal.TheVariants.{SettingsBeyond, RateBeyond}
+use Rattle.control.specs.RateController.{with_params, applied, rate_set}
 use Rattle.control.specs.declared.rate_controller.Applied.{Applied}
-use Rattle.control.specs.declared.rate_controller.RateAnswer.{RateAnswer}
 use Rattle.control.specs.declared.rate_controller.RateController.{RateController}
-use Rattle.control.specs.declared.rate_controller.RateControllerAlone.{RateControllerAlone}
 use Rattle.control.specs.declared.rate_controller.RateParams.{RateParams}
+use Rattle.control.specs.declared.rate_controller_alone.ConfiguredController.{ConfiguredController}
 use Rattle.control.specs.declared.scorer.CongestionAction.{CongestionAction}
 
 -- "any rate given: at most 1,000,000,000 bytes per second; `min_rate_bps` .. at least 1", and the least rate no more than the largest
@@ -22,39 +25,30 @@ rates_out p initial =
 -- 2, 6 and 7
 abbrev pub making_checks : RateParams → ℕ → ℕ → List Check
 making_checks p time initial =
-    when settings_beyond (factor_out p.md_hard || factor_out p.md_soft)
-    ∷ when rate_beyond (rates_out p initial)
+    when SettingsBeyond (factor_out p.md_hard || factor_out p.md_soft)
+    ∷ when RateBeyond (rates_out p initial)
     ∷ time_check time
     ∷ []
 
-abbrev pub alone_of : Ledger → RateParams → RateController → RateControllerAlone
-alone_of l p r = record { ledger = l; params = p; controller = r }
+abbrev pub configured : RateParams → RateController → ConfiguredController
+configured p r = record { params = p; controller = r }
 
-abbrev pub zero_alone : RateControllerAlone
-zero_alone = alone_of (opened 0) no_params (with_params no_params 0 0)
-
--- accepted: answer 0, whether the rate changed, and what the step left; turned down: the number, no change, and the old state or, of a making, zero
-abbrev pub answered_by : ℕ → Bool → RateControllerAlone → RateControllerAlone → RateAnswer
-answered_by answer changed new old =
-    cond (eqb answer 0) (record { answer = 0; changed = changed; alone = new })
-    (record { answer = answer; changed = false; alone = old })
-
-unfoldable pub made_alone : RateParams → ℕ → ℕ → RateAnswer
+unfoldable pub made_alone : RateParams → ℕ → ℕ → Result (Alone ConfiguredController) Refusal
 made_alone p time initial =
-    answered_by (answer_of (making_checks p time initial)) false (alone_of (opened time) p (with_params p time initial)) zero_alone
+    made_or (verdict_of (making_checks p time initial)) time (configured p (with_params p time initial))
 
-abbrev pub resumed_alone : RateControllerAlone → ℕ → RateControllerAlone
-resumed_alone a calls = alone_of (resumed a.ledger calls) a.params a.controller
+-- what the controller after a change is, beside its parameters, and whether the rate changed
+abbrev pub changed_in : RateParams → Applied → ConfiguredController × Bool
+changed_in p x = (configured p x.controller, x.changed)
 
-abbrev pub applied_by : RateControllerAlone → ℕ → Applied → RateAnswer
-applied_by a time x =
-    answered_by (answer_of (timed_checks a.ledger time)) x.changed
-    (alone_of (moved a.ledger time) a.params x.controller) a
+-- 7, 17 and 11
+unfoldable pub applied_alone : Alone ConfiguredController → ℕ → CongestionAction → Left (Alone ConfiguredController) Bool
+applied_alone a time action =
+    answered a (verdict_of (timed_checks a.ledger time)) (moved a.ledger time)
+    (changed_in a.inner.params (applied a.inner.controller a.inner.params time action))
 
-unfoldable pub applied_alone : RateControllerAlone → ℕ → CongestionAction → RateAnswer
-applied_alone a time action = applied_by a time (applied a.controller a.params time action)
-
-unfoldable pub rated_alone : RateControllerAlone → ℕ → ℕ → RateAnswer
+-- 6, 7, 17 and 11
+unfoldable pub rated_alone : Alone ConfiguredController → ℕ → ℕ → Left (Alone ConfiguredController) Unit
 rated_alone a time rate =
-    answered_by (answer_of (rate_checks a.ledger time rate)) false
-    (alone_of (moved a.ledger time) a.params (rate_set a.controller a.params time rate)) a
+    answered a (verdict_of (rate_checks a.ledger time rate)) (moved a.ledger time)
+    (configured a.inner.params (rate_set a.inner.controller a.inner.params time rate), tt)

@@ -1,14 +1,12 @@
 -- The congestion score (document 01, scorer.rs): "Score is score times decay plus impulse, clamped to 0..100". Definitions only.
-use Rattle.std.specs.Prelude.{ℕ, ◌+◌, ◌-◌, ◌*◌, Bool, true, false, cond, ◌&&◌, ltb, leb, Float, pos}
+use Rattle.std.specs.Prelude.{ℕ, ◌+◌, ◌-◌, ◌*◌, Bool, true, false, cond, ◌&&◌, ltb, leb, Float, pos, Option, None, Some}
 use Rattle.std.specs.Float.{binary32}
 use Rattle.std.specs.Float.Ieee.{of_int, of_bits, add, mul, lt, le}
 use Rattle.config.specs.declared.config.CongestionConfig.{CongestionConfig}
-use Rattle.config.specs.declared.moment.Moment.{Moment}
-use Rattle.config.specs.declared.moment.Moment.TheVariants.{Never, At}
 use Rattle.numeric.specs.Float.{zero32, clamp_of}
 use Rattle.numeric.specs.Integer.{up_to_u64, next, next_u32}
 use Rattle.control.specs.declared.scorer.CongestionAction.{CongestionAction}
-use Rattle.control.specs.declared.scorer.CongestionAction.TheVariants.{None, Increase, DecreaseSoft, DecreaseHard}
+use Rattle.control.specs.declared.scorer.CongestionAction.TheVariants.{None as NoAction, Increase, DecreaseSoft, DecreaseHard}
 use Rattle.control.specs.declared.scorer.CongestionScorer.{CongestionScorer}
 use Rattle.control.specs.declared.scorer.PendingSignals.{PendingSignals}
 use Rattle.control.specs.declared.scorer.Phase.{Phase}
@@ -24,7 +22,7 @@ state_number Stable = 0
 state_number Congested = 1
 
 abbrev pub action_number : CongestionAction → ℕ
-action_number None = 0
+action_number NoAction = 0
 action_number Increase = 1
 action_number DecreaseSoft = 2
 action_number DecreaseHard = 3
@@ -144,7 +142,7 @@ congested_for m interval =
 
 -- ---- the scorer
 
-abbrev pub phase_of : ScorerState → Moment → Moment → Phase
+abbrev pub phase_of : ScorerState → Option ℕ → Option ℕ → Phase
 phase_of state until since = record { state = state; cooldown_until = until; stable_since = since }
 
 abbrev pub scorer_of : Float → ℕ → Phase → PendingSignals → SignalCounts → ScorerMetrics → CongestionScorer
@@ -159,7 +157,7 @@ scorer_of score tick phase pending signals metrics =
     }
 
 abbrev pub new_scorer : ℕ → CongestionScorer
-new_scorer time = scorer_of zero32 time (phase_of Stable Never (At time)) no_pending no_signals no_scorer_metrics
+new_scorer time = scorer_of zero32 time (phase_of Stable None (Some time)) no_pending no_signals no_scorer_metrics
 
 -- a signal joins what is pending, and is counted
 abbrev pub signalled : CongestionScorer → PendingSignals → SignalCounts → CongestionScorer
@@ -199,17 +197,17 @@ on_loss s = signalled s (loss_in s.pending) s.signals
 -- ---- a tick
 
 -- before the end of the cooldown
-abbrev pub before_end : Moment → ℕ → Bool
-before_end Never time = false
-before_end (At end) time = ltb time end
+abbrev pub before_end : Option ℕ → ℕ → Bool
+before_end None time = false
+before_end (Some end) time = ltb time end
 
 unfoldable pub in_cooldown : Phase → ℕ → Bool
 in_cooldown p time = before_end p.cooldown_until time
 
 -- stable for a whole window
-abbrev pub for_window : Moment → ℕ → ℕ → Bool
-for_window Never window time = false
-for_window (At start) window time = leb window (time - start)
+abbrev pub for_window : Option ℕ → ℕ → ℕ → Bool
+for_window None window time = false
+for_window (Some start) window time = leb window (time - start)
 
 unfoldable pub can_increase : Phase → ℕ → ℕ → Bool
 can_increase p window time = for_window p.stable_since window time
@@ -223,7 +221,7 @@ in_phase s phase metrics = scorer_of s.score s.last_tick phase s.pending s.signa
 
 -- congestion begins, and with it a cooldown; the decrease is hard after an EAGAIN, where the settings say so
 abbrev pub congested_phase : ScorerConfig → ℕ → Phase
-congested_phase c time = phase_of Congested (At (up_to_u64 (time + c.cooldown))) Never
+congested_phase c time = phase_of Congested (Some (up_to_u64 (time + c.cooldown))) None
 
 abbrev pub decrease_for : Bool → CongestionAction
 decrease_for hard = cond hard DecreaseHard DecreaseSoft
@@ -236,22 +234,22 @@ congested_at s c time had-eagain =
 unfoldable pub evaluated_stable : CongestionScorer → ScorerConfig → ℕ → Bool → Ticked
 evaluated_stable s c time had-eagain =
     cond (le c.decrease_threshold s.score) (congested_at s c time had-eagain)
-    (cond (in_cooldown s.phase time) (ticked_as None s)
-    (cond (can_increase s.phase c.stable_window time) (ticked_as Increase s) (ticked_as None s)))
+    (cond (in_cooldown s.phase time) (ticked_as NoAction s)
+    (cond (can_increase s.phase c.stable_window time) (ticked_as Increase s) (ticked_as NoAction s)))
 
 -- out of cooldown, a score no more than the increase threshold and the hysteresis band is recovery
 abbrev pub recovered : CongestionScorer → ℕ → ScorerMetrics → CongestionScorer
-recovered s time m = in_phase s (phase_of Stable s.phase.cooldown_until (At time)) (recovery_measured m)
+recovered s time m = in_phase s (phase_of Stable s.phase.cooldown_until (Some time)) (recovery_measured m)
 
 abbrev pub still_congested : CongestionScorer → ScorerMetrics → CongestionScorer
 still_congested s m = in_phase s s.phase m
 
 unfoldable pub evaluated_congested : CongestionScorer → ScorerConfig → ℕ → Ticked
 evaluated_congested s c time =
-    cond (in_cooldown s.phase time) (ticked_as None (still_congested s (congested_for s.metrics c.tick_interval)))
+    cond (in_cooldown s.phase time) (ticked_as NoAction (still_congested s (congested_for s.metrics c.tick_interval)))
     (cond (le s.score (add binary32 c.increase_threshold c.hysteresis))
-    (ticked_as None (recovered s time (congested_for s.metrics c.tick_interval)))
-    (ticked_as None (still_congested s (congested_for s.metrics c.tick_interval))))
+    (ticked_as NoAction (recovered s time (congested_for s.metrics c.tick_interval)))
+    (ticked_as NoAction (still_congested s (congested_for s.metrics c.tick_interval))))
 
 abbrev pub by_state : ScorerState → CongestionScorer → ScorerConfig → ℕ → Bool → Ticked
 by_state Stable s c time had-eagain = evaluated_stable s c time had-eagain

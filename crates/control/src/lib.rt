@@ -5,4 +5,6 @@ pub mod budget_allocator;
 pub mod controller;
 pub mod metrics;
 pub mod rate_controller;
+pub mod rate_controller_alone;
 pub mod scorer;
+pub mod scorer_alone;

@@ -2,9 +2,7 @@
 ghost use Rattle.std.specs.Prelude.{◌≡◌};
 ghost use Rattle.control.specs.Metrics.{no_metrics, rate_recorded, change_recorded, eagain_recorded, ce_recorded};
 
-use numeric::integer::increment;
-
-#[derive(Clone, Copy)]
+#[derive(Clone, Copy, Debug, PartialEq, Eq)]
 pub struct CongestionMetrics {
     pub current_rate_bps: u32,
     pub eagain_total: u64,
@@ -46,7 +44,7 @@ impl CongestionMetrics {
         ensures { result ≡ eagain_recorded self }
     {
         CongestionMetrics {
-            eagain_total: increment(self.eagain_total),
+            eagain_total: self.eagain_total.saturating_add(1),
             ..self
         }
     }
@@ -56,7 +54,7 @@ impl CongestionMetrics {
         ensures { result ≡ ce_recorded self }
     {
         CongestionMetrics {
-            ecn_ce_received: increment(self.ecn_ce_received),
+            ecn_ce_received: self.ecn_ce_received.saturating_add(1),
             ..self
         }
     }

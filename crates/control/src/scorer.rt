@@ -1,56 +1,46 @@
 // The congestion score: a decaying sum of the signals, and a state with hysteresis that asks for decreases and increases.
 ghost use Rattle.std.specs.Prelude.{◌≡◌};
 ghost use Rattle.control.specs.Scorer.{state_number, action_number, scorer_config_of, no_scorer_config, no_pending, loss_impulse, added_if, impulse_of, tick_measured, congestion_measured, recovery_measured, congested_for, new_scorer, on_eagain, on_rtt_inflated, on_nack, on_loss, in_cooldown, can_increase, congested_at, evaluated_stable, evaluated_congested, evaluated, ticked};
-ghost use Rattle.control.specs.ScorerAlone.{zero_alone, made_alone, resumed_alone, noted_by, eagain_alone, inflated_alone, nack_alone, loss_alone, ticked_alone};
 
 use config::config::CongestionConfig;
-use config::ledger::Ledger;
-use config::moment::Moment;
 use numeric::float::{clamp_f32, f32_of_u8, f32_of_u32};
-use numeric::integer::{increment, increment_u32, saturating_add, saturating_sub};
 
 // Stable: the rate may grow. Congested: it was lowered, and waits for recovery.
-#[derive(Clone, Copy)]
+#[derive(Clone, Copy, Debug, PartialEq, Eq)]
 pub enum ScorerState {
-    Stable,
-    Congested,
+    Stable = 0,
+    Congested = 1,
 }
 
 // What the scorer asks of the rate.
-#[derive(Clone, Copy)]
+#[derive(Clone, Copy, Debug, PartialEq, Eq)]
 pub enum CongestionAction {
-    None,
-    Increase,
-    DecreaseSoft,
-    DecreaseHard,
+    None = 0,
+    Increase = 1,
+    DecreaseSoft = 2,
+    DecreaseHard = 3,
 }
 
-impl ScorerState {
-    pub fn number(self) -> u8
-        ensures { result ≡ state_number self }
-    {
-        match self {
-            ScorerState::Stable => 0,
-            ScorerState::Congested => 1,
-        }
+// The digit that stands for a state.
+impl From<ScorerState> for u8 {
+    ghost from_gives = { λ state number. number ≡ state_number state };
+
+    fn from(state: ScorerState) -> u8 {
+        state as u8
     }
 }
 
-impl CongestionAction {
-    pub fn number(self) -> u8
-        ensures { result ≡ action_number self }
-    {
-        match self {
-            CongestionAction::None => 0,
-            CongestionAction::Increase => 1,
-            CongestionAction::DecreaseSoft => 2,
-            CongestionAction::DecreaseHard => 3,
-        }
+// The digit that stands for an action.
+impl From<CongestionAction> for u8 {
+    ghost from_gives = { λ action number. number ≡ action_number action };
+
+    fn from(action: CongestionAction) -> u8 {
+        action as u8
     }
 }
 
 // What the settings say of the score; durations in nanoseconds.
-#[derive(Clone, Copy)]
+#[derive(Clone, Copy, Debug, PartialEq)]
 pub struct ScorerConfig {
     pub tick_interval: u64,
     pub decay: f32,
@@ -110,7 +100,7 @@ impl ScorerConfig {
 }
 
 // The signals since the last tick.
-#[derive(Clone, Copy)]
+#[derive(Clone, Copy, Debug, PartialEq, Eq)]
 pub struct PendingSignals {
     pub eagain_count: u32,
     pub rtt_inflated: bool,
@@ -161,14 +151,14 @@ impl PendingSignals {
 }
 
 // Signals in all, by kind.
-#[derive(Clone, Copy)]
+#[derive(Clone, Copy, Debug, PartialEq, Eq)]
 pub struct SignalCounts {
     pub eagain_signals: u64,
     pub rtt_signals: u64,
     pub nack_signals: u64,
 }
 
-#[derive(Clone, Copy)]
+#[derive(Clone, Copy, Debug, PartialEq)]
 pub struct ScorerMetrics {
     pub ticks: u64,
     pub congestion_events: u64,
@@ -183,22 +173,22 @@ impl ScorerMetrics {
     fn tick(self, score: f32) -> ScorerMetrics
         ensures { result ≡ tick_measured self score }
     {
-        let ticks = increment(self.ticks);
-        if score > self.peak_score {
-            return ScorerMetrics {
-                ticks,
-                peak_score: score,
-                ..self
-            };
+        ScorerMetrics {
+            ticks: self.ticks.saturating_add(1),
+            peak_score: if score > self.peak_score {
+                score
+            } else {
+                self.peak_score
+            },
+            ..self
         }
-        ScorerMetrics { ticks, ..self }
     }
 
     fn congestion(self) -> ScorerMetrics
         ensures { result ≡ congestion_measured self }
     {
         ScorerMetrics {
-            congestion_events: increment(self.congestion_events),
+            congestion_events: self.congestion_events.saturating_add(1),
             ..self
         }
     }
@@ -207,7 +197,7 @@ impl ScorerMetrics {
         ensures { result ≡ recovery_measured self }
     {
         ScorerMetrics {
-            recovery_events: increment(self.recovery_events),
+            recovery_events: self.recovery_events.saturating_add(1),
             ..self
         }
     }
@@ -217,21 +207,21 @@ impl ScorerMetrics {
         ensures { result ≡ congested_for self interval }
     {
         ScorerMetrics {
-            congested_duration: saturating_add(self.congested_duration, interval),
+            congested_duration: self.congested_duration.saturating_add(interval),
             ..self
         }
     }
 }
 
-// The state, the end of the time without new increases or recovery, and since when it is stable.
-#[derive(Clone, Copy)]
+// The state, the end of the time without new increases or recovery, and since when it is stable; both may be never.
+#[derive(Clone, Copy, Debug, PartialEq, Eq)]
 pub struct Phase {
     pub state: ScorerState,
-    pub cooldown_until: Moment,
-    pub stable_since: Moment,
+    pub cooldown_until: Option<u64>,
+    pub stable_since: Option<u64>,
 }
 
-#[derive(Clone, Copy)]
+#[derive(Clone, Copy, Debug, PartialEq)]
 pub struct CongestionScorer {
     pub(crate) score: f32,
     pub(crate) last_tick: u64,
@@ -242,13 +232,13 @@ pub struct CongestionScorer {
 }
 
 // A scorer after a tick, and what it asks for.
-#[derive(Clone, Copy)]
+#[derive(Clone, Copy, Debug, PartialEq)]
 pub struct Ticked {
     pub scorer: CongestionScorer,
     pub action: CongestionAction,
 }
 
-// The steps: total, with no numbers.
+// The steps: total, with no refusals.
 impl CongestionScorer {
     pub fn new(time: u64) -> CongestionScorer
         ensures { result ≡ new_scorer time }
@@ -258,8 +248,8 @@ impl CongestionScorer {
             last_tick: time,
             phase: Phase {
                 state: ScorerState::Stable,
-                cooldown_until: Moment::Never,
-                stable_since: Moment::At(time),
+                cooldown_until: None,
+                stable_since: Some(time),
             },
             pending: PendingSignals::new(),
             signals: SignalCounts {
@@ -281,18 +271,8 @@ impl CongestionScorer {
     pub fn on_eagain(mut self) -> CongestionScorer
         ensures { result ≡ on_eagain self }
     {
-        let pending = self.pending;
-        let signals = self.signals;
-        let pending = PendingSignals {
-            eagain_count: increment_u32(pending.eagain_count),
-            ..pending
-        };
-        self.pending = pending;
-        let signals = SignalCounts {
-            eagain_signals: increment(signals.eagain_signals),
-            ..signals
-        };
-        self.signals = signals;
+        self.pending.eagain_count = self.pending.eagain_count.saturating_add(1);
+        self.signals.eagain_signals = self.signals.eagain_signals.saturating_add(1);
         self
     }
 
@@ -300,18 +280,8 @@ impl CongestionScorer {
     pub fn on_rtt_inflated(mut self) -> CongestionScorer
         ensures { result ≡ on_rtt_inflated self }
     {
-        let pending = self.pending;
-        let signals = self.signals;
-        let pending = PendingSignals {
-            rtt_inflated: true,
-            ..pending
-        };
-        self.pending = pending;
-        let signals = SignalCounts {
-            rtt_signals: increment(signals.rtt_signals),
-            ..signals
-        };
-        self.signals = signals;
+        self.pending.rtt_inflated = true;
+        self.signals.rtt_signals = self.signals.rtt_signals.saturating_add(1);
         self
     }
 
@@ -319,18 +289,8 @@ impl CongestionScorer {
     pub fn on_nack(mut self) -> CongestionScorer
         ensures { result ≡ on_nack self }
     {
-        let pending = self.pending;
-        let signals = self.signals;
-        let pending = PendingSignals {
-            nack_count: increment_u32(pending.nack_count),
-            ..pending
-        };
-        self.pending = pending;
-        let signals = SignalCounts {
-            nack_signals: increment(signals.nack_signals),
-            ..signals
-        };
-        self.signals = signals;
+        self.pending.nack_count = self.pending.nack_count.saturating_add(1);
+        self.signals.nack_signals = self.signals.nack_signals.saturating_add(1);
         self
     }
 
@@ -338,12 +298,7 @@ impl CongestionScorer {
     pub fn on_loss(mut self) -> CongestionScorer
         ensures { result ≡ on_loss self }
     {
-        let pending = self.pending;
-        let pending = PendingSignals {
-            loss_count: increment_u32(pending.loss_count),
-            ..pending
-        };
-        self.pending = pending;
+        self.pending.loss_count = self.pending.loss_count.saturating_add(1);
         self
     }
 
@@ -351,8 +306,7 @@ impl CongestionScorer {
     pub fn tick(self, config: ScorerConfig, time: u64) -> Ticked
         ensures { result ≡ ticked self config time }
     {
-        let pending = self.pending;
-        let impulse = pending.impulse(config);
+        let impulse = self.pending.impulse(config);
         let score = clamp_f32(self.score * config.decay + impulse, 0.0, 100.0);
         let scorer = CongestionScorer {
             score,
@@ -361,15 +315,13 @@ impl CongestionScorer {
             metrics: self.metrics.tick(score),
             ..self
         };
-        scorer.evaluate_state(config, time, pending.eagain_count > 0)
+        scorer.evaluate_state(config, time, self.pending.eagain_count > 0)
     }
 
     fn evaluate_state(self, config: ScorerConfig, time: u64, had_eagain: bool) -> Ticked
         ensures { result ≡ evaluated self config time had_eagain }
     {
-        let phase = self.phase;
-        let state = phase.state;
-        match state {
+        match self.phase.state {
             ScorerState::Stable => self.evaluate_stable(config, time, had_eagain),
             ScorerState::Congested => self.evaluate_congested(config, time),
         }
@@ -382,45 +334,35 @@ impl CongestionScorer {
         if self.score >= config.decrease_threshold {
             return self.enter_congested(config, time, had_eagain);
         }
-        if self.phase.in_cooldown(time) {
-            return Ticked {
-                scorer: self,
-                action: CongestionAction::None, // cooling down
-            };
-        }
-        if self.phase.can_increase(config.stable_window, time) {
-            return Ticked {
-                scorer: self,
-                action: CongestionAction::Increase,
-            };
-        }
+        let cooling = self.phase.in_cooldown(time);
+        let action = if !cooling && self.phase.can_increase(config.stable_window, time) {
+            CongestionAction::Increase
+        } else {
+            CongestionAction::None
+        };
         Ticked {
             scorer: self,
-            action: CongestionAction::None,
+            action,
         }
     }
 
     fn enter_congested(mut self, config: ScorerConfig, time: u64, had_eagain: bool) -> Ticked
         ensures { result ≡ congested_at self config time had_eagain }
     {
-        let phase = Phase {
+        self.phase = Phase {
             state: ScorerState::Congested,
-            cooldown_until: Moment::At(saturating_add(time, config.cooldown)),
-            stable_since: Moment::Never,
+            cooldown_until: Some(time.saturating_add(config.cooldown)),
+            stable_since: None,
         };
-        self.phase = phase;
         self.metrics = self.metrics.congestion();
-        if config.eagain_is_hard {
-            if had_eagain {
-                return Ticked {
-                    scorer: self,
-                    action: CongestionAction::DecreaseHard,
-                };
-            }
-        }
+        let action = if config.eagain_is_hard && had_eagain {
+            CongestionAction::DecreaseHard
+        } else {
+            CongestionAction::DecreaseSoft
+        };
         Ticked {
             scorer: self,
-            action: CongestionAction::DecreaseSoft,
+            action,
         }
     }
 
@@ -428,24 +370,12 @@ impl CongestionScorer {
     fn evaluate_congested(mut self, config: ScorerConfig, time: u64) -> Ticked
         ensures { result ≡ evaluated_congested self config time }
     {
-        let metrics = self.metrics.congested_for(config.tick_interval);
-        self.metrics = metrics;
-        if self.phase.in_cooldown(time) {
-            return Ticked {
-                scorer: self,
-                action: CongestionAction::None,
-            };
-        }
-        if self.score <= config.increase_threshold + config.hysteresis {
-            let phase = self.phase;
-            let cooldown_until = phase.cooldown_until;
-            let phase = Phase {
-                state: ScorerState::Stable,
-                cooldown_until,
-                stable_since: Moment::At(time),
-            };
-            self.phase = phase;
-            self.metrics = metrics.recovery();
+        self.metrics = self.metrics.congested_for(config.tick_interval);
+        let cooling = self.phase.in_cooldown(time);
+        if !cooling && self.score <= config.increase_threshold + config.hysteresis {
+            self.phase.state = ScorerState::Stable;
+            self.phase.stable_since = Some(time);
+            self.metrics = self.metrics.recovery();
         }
         Ticked {
             scorer: self,
@@ -494,174 +424,14 @@ impl Phase {
     fn in_cooldown(self, time: u64) -> bool
         ensures { result ≡ in_cooldown self time }
     {
-        let until = self.cooldown_until;
-        match until {
-            Moment::Never => false,
-            Moment::At(end) => time < end,
-        }
+        self.cooldown_until.is_some_and(|end| time < end)
     }
 
     // Stable for a whole window.
     fn can_increase(self, window: u64, time: u64) -> bool
         ensures { result ≡ can_increase self window time }
     {
-        let since = self.stable_since;
-        match since {
-            Moment::Never => false,
-            Moment::At(start) => saturating_sub(time, start) >= window,
-        }
-    }
-}
-
-// A scorer used alone, with its own call count and last time: the public calls, which turn down by number.
-#[derive(Clone, Copy)]
-pub struct CongestionScorerAlone {
-    ledger: Ledger,
-    config: ScorerConfig,
-    scorer: CongestionScorer,
-}
-
-// The answer number, what the scorer asks for (nothing where the call is turned down) and what a call leaves.
-#[derive(Clone, Copy)]
-pub struct ScorerAnswer {
-    pub answer: u8,
-    pub action: CongestionAction,
-    pub alone: CongestionScorerAlone,
-}
-
-impl CongestionScorerAlone {
-    // A scorer that was turned down: every number 0.
-    fn zero() -> CongestionScorerAlone
-        ensures { result ≡ zero_alone }
-    {
-        CongestionScorerAlone {
-            ledger: Ledger::new(0),
-            config: ScorerConfig::zero(),
-            scorer: CongestionScorer::new(0),
-        }
-    }
-
-    pub fn from_config(config: CongestionConfig, time: u64) -> ScorerAnswer
-        ensures { result ≡ made_alone config time }
-    {
-        let answer = config.check_making(time);
-        if answer != 0 {
-            return ScorerAnswer {
-                answer,
-                action: CongestionAction::None,
-                alone: CongestionScorerAlone::zero(),
-            };
-        }
-        ScorerAnswer {
-            answer: 0,
-            action: CongestionAction::None,
-            alone: CongestionScorerAlone {
-                ledger: Ledger::new(time),
-                config: ScorerConfig::from_config(config),
-                scorer: CongestionScorer::new(time),
-            },
-        }
-    }
-
-    // The same scorer with a call count that was kept elsewhere, as over a restart.
-    pub fn resumed(self, calls: u64) -> CongestionScorerAlone
-        ensures { result ≡ resumed_alone self calls }
-    {
-        CongestionScorerAlone {
-            ledger: self.ledger.resumed(calls),
-            ..self
-        }
-    }
-
-    pub fn on_eagain(self) -> ScorerAnswer
-        ensures { result ≡ eagain_alone self }
-    {
-        self.noted(self.scorer.on_eagain())
-    }
-
-    pub fn on_rtt_inflated(self) -> ScorerAnswer
-        ensures { result ≡ inflated_alone self }
-    {
-        self.noted(self.scorer.on_rtt_inflated())
-    }
-
-    pub fn on_nack(self) -> ScorerAnswer
-        ensures { result ≡ nack_alone self }
-    {
-        self.noted(self.scorer.on_nack())
-    }
-
-    pub fn on_loss(self) -> ScorerAnswer
-        ensures { result ≡ loss_alone self }
-    {
-        self.noted(self.scorer.on_loss())
-    }
-
-    // A signal takes no time: the scorer with it, unless the calls are used up.
-    fn noted(self, scorer: CongestionScorer) -> ScorerAnswer
-        ensures { result ≡ noted_by self scorer }
-    {
-        let answer = self.ledger.check_counted();
-        if answer != 0 {
-            return ScorerAnswer {
-                answer,
-                action: CongestionAction::None,
-                alone: self,
-            };
-        }
-        let config = self.config;
-        ScorerAnswer {
-            answer: 0,
-            action: CongestionAction::None,
-            alone: CongestionScorerAlone {
-                ledger: self.ledger.counted(),
-                config,
-                scorer,
-            },
-        }
-    }
-
-    pub fn tick(self, time: u64) -> ScorerAnswer
-        ensures { result ≡ ticked_alone self time }
-    {
-        let answer = self.ledger.check_timed(time);
-        if answer != 0 {
-            return ScorerAnswer {
-                answer,
-                action: CongestionAction::None,
-                alone: self,
-            };
-        }
-        let config = self.config;
-        let ticked = self.scorer.tick(config, time);
-        let action = ticked.action;
-        let scorer = ticked.scorer;
-        ScorerAnswer {
-            answer: 0,
-            action,
-            alone: CongestionScorerAlone {
-                ledger: self.ledger.moved(time),
-                config,
-                scorer,
-            },
-        }
-    }
-
-    pub fn ledger(self) -> Ledger
-        ensures { result ≡ self.ledger }
-    {
-        self.ledger
-    }
-
-    pub fn config(self) -> ScorerConfig
-        ensures { result ≡ self.config }
-    {
-        self.config
-    }
-
-    pub fn scorer(self) -> CongestionScorer
-        ensures { result ≡ self.scorer }
-    {
-        self.scorer
+        self.stable_since
+            .is_some_and(|start| time.saturating_sub(start) >= window)
     }
 }

@@ -1,0 +1,83 @@
+// A scorer used alone, with its own call count and last time: the public calls, which turn down with a reason.
+ghost use Rattle.std.specs.Prelude.{◌≡◌};
+ghost use Rattle.control.specs.ScorerAlone.{made_alone, noted_by, eagain_alone, inflated_alone, nack_alone, loss_alone, ticked_alone};
+
+use crate::scorer::{CongestionAction, CongestionScorer, ScorerConfig};
+use config::alone::{Alone, Left};
+use config::config::CongestionConfig;
+use config::refusal::Refusal;
+
+// A scorer, and what the settings say of its score.
+#[derive(Clone, Copy, Debug, PartialEq)]
+pub struct ConfiguredScorer {
+    pub config: ScorerConfig,
+    pub scorer: CongestionScorer,
+}
+
+pub fn from_config(
+    config: CongestionConfig,
+    time: u64,
+) -> Result<Alone<ConfiguredScorer>, Refusal>
+    ensures { result ≡ made_alone config time }
+{
+    config.check_making(time)?;
+    Ok(Alone::new(
+        time,
+        ConfiguredScorer {
+            config: ScorerConfig::from_config(config),
+            scorer: CongestionScorer::new(time),
+        },
+    ))
+}
+
+pub fn on_eagain(alone: Alone<ConfiguredScorer>) -> Left<Alone<ConfiguredScorer>, ()>
+    ensures { result ≡ eagain_alone alone }
+{
+    noted(alone, alone.inner.scorer.on_eagain())
+}
+
+pub fn on_rtt_inflated(alone: Alone<ConfiguredScorer>) -> Left<Alone<ConfiguredScorer>, ()>
+    ensures { result ≡ inflated_alone alone }
+{
+    noted(alone, alone.inner.scorer.on_rtt_inflated())
+}
+
+pub fn on_nack(alone: Alone<ConfiguredScorer>) -> Left<Alone<ConfiguredScorer>, ()>
+    ensures { result ≡ nack_alone alone }
+{
+    noted(alone, alone.inner.scorer.on_nack())
+}
+
+pub fn on_loss(alone: Alone<ConfiguredScorer>) -> Left<Alone<ConfiguredScorer>, ()>
+    ensures { result ≡ loss_alone alone }
+{
+    noted(alone, alone.inner.scorer.on_loss())
+}
+
+// A signal takes no time: the scorer with it, unless the calls are used up.
+fn noted(
+    alone: Alone<ConfiguredScorer>,
+    scorer: CongestionScorer,
+) -> Left<Alone<ConfiguredScorer>, ()>
+    ensures { result ≡ noted_by alone scorer }
+{
+    let ledger = alone.ledger;
+    alone.after(ledger.check_counted(), ledger.counted(), |before| {
+        (ConfiguredScorer { scorer, ..before }, ())
+    })
+}
+
+// What the scorer asks for is the answer.
+pub fn tick(
+    alone: Alone<ConfiguredScorer>,
+    time: u64,
+) -> Left<Alone<ConfiguredScorer>, CongestionAction>
+    ensures { result ≡ ticked_alone alone time }
+{
+    let ledger = alone.ledger;
+    alone.after(ledger.check_timed(time), ledger.moved(time), |before| {
+        let ticked = before.scorer.tick(before.config, time);
+        let scorer = ticked.scorer;
+        (ConfiguredScorer { scorer, ..before }, ticked.action)
+    })
+}
