@@ -1,4 +1,6 @@
 // The metrics that the controller's calls write.
+#![tactic(auto, unfolding(crate::specs::Metrics::change_recorded))]
+
 ghost use Rattle.std.specs.Prelude.{◌≡◌};
 ghost use Rattle.control.specs.Metrics.{no_metrics, rate_recorded, change_recorded, eagain_recorded, ce_recorded};
 

@@ -1,4 +1,6 @@
 // The sending rate: additive increase and multiplicative decrease.
+#![tactic(auto, unfolding(crate::specs::RateController::decreased, crate::specs::RateController::gained_from, crate::specs::RateController::lost_from, crate::specs::RateController::softened, crate::specs::RateController::hardened, crate::specs::RateController::reached_by, crate::specs::RateController::with_params, crate::specs::RateController::changed_to, crate::specs::RateController::applied, crate::specs::RateController::rate_set))]
+
 ghost use Rattle.std.specs.Prelude.{◌≡◌};
 ghost use Rattle.control.specs.RateController.{decreased, new_metrics, gained_from, lost_from, softened, hardened, reached_by, params_of, no_params, held_rate, with_params, changed_to, applied, rate_set};
 
@@ -48,7 +50,11 @@ pub fn decrease(rate: u32, factor: f32, least: u32) -> u32
     ensures { result ≡ decreased rate factor least }
 {
     let product = scaled_u32(rate, factor);
-    if rate < product { rate } else { product.max(least) }
+    if rate < product {
+        rate
+    } else {
+        product.max(least)
+    }
 }
 
 impl RateParams {

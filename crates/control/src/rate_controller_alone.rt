@@ -1,4 +1,6 @@
 // A rate controller used alone, with its own call count and last time: the public calls, which turn down with a reason.
+#![tactic(auto, unfolding(config::specs::Refusal::verdict_of, crate::specs::RateControllerAlone::rates_out, crate::specs::RateControllerAlone::made_alone, crate::specs::RateControllerAlone::applied_alone, crate::specs::RateControllerAlone::rated_alone))]
+
 ghost use Rattle.std.specs.Prelude.{◌≡◌};
 ghost use Rattle.config.specs.Refusal.{verdict_of};
 ghost use Rattle.control.specs.RateControllerAlone.{rates_out, making_checks, made_alone, applied_alone, rated_alone};

@@ -1,4 +1,6 @@
 // The congestion score: a decaying sum of the signals, and a state with hysteresis that asks for decreases and increases.
+#![tactic(auto, unfolding(crate::specs::Scorer::loss_impulse, crate::specs::Scorer::added_if, crate::specs::Scorer::impulse_of, crate::specs::Scorer::tick_measured, crate::specs::Scorer::congestion_measured, crate::specs::Scorer::recovery_measured, crate::specs::Scorer::congested_for, crate::specs::Scorer::on_eagain, crate::specs::Scorer::on_rtt_inflated, crate::specs::Scorer::on_nack, crate::specs::Scorer::on_loss, crate::specs::Scorer::in_cooldown, crate::specs::Scorer::can_increase, crate::specs::Scorer::congested_at, crate::specs::Scorer::evaluated_stable, crate::specs::Scorer::evaluated_congested, crate::specs::Scorer::evaluated, crate::specs::Scorer::ticked))]
+
 ghost use Rattle.std.specs.Prelude.{◌≡◌};
 ghost use Rattle.control.specs.Scorer.{state_number, action_number, scorer_config_of, no_scorer_config, no_pending, loss_impulse, added_if, impulse_of, tick_measured, congestion_measured, recovery_measured, congested_for, new_scorer, on_eagain, on_rtt_inflated, on_nack, on_loss, in_cooldown, can_increase, congested_at, evaluated_stable, evaluated_congested, evaluated, ticked};
 

@@ -1,4 +1,6 @@
 // A scorer used alone, with its own call count and last time: the public calls, which turn down with a reason.
+#![tactic(auto, unfolding(crate::specs::ScorerAlone::made_alone, crate::specs::ScorerAlone::noted_by, crate::specs::ScorerAlone::ticked_alone))]
+
 ghost use Rattle.std.specs.Prelude.{◌≡◌};
 ghost use Rattle.control.specs.ScorerAlone.{made_alone, noted_by, eagain_alone, inflated_alone, nack_alone, loss_alone, ticked_alone};
 
@@ -14,10 +16,7 @@ pub struct ConfiguredScorer {
     pub scorer: CongestionScorer,
 }
 
-pub fn from_config(
-    config: CongestionConfig,
-    time: u64,
-) -> Result<Alone<ConfiguredScorer>, Refusal>
+pub fn from_config(config: CongestionConfig, time: u64) -> Result<Alone<ConfiguredScorer>, Refusal>
     ensures { result ≡ made_alone config time }
 {
     config.check_making(time)?;
