@@ -1,15 +1,16 @@
--- A bucket used alone: the numbers that may apply to each call, and what it answers and leaves
+-- A bucket used alone: the reasons that may apply to each call, and what it answers and leaves
 -- (document 01, "Domain": "A bucket alone: rate at least 1, capacity and byte counts at most 1,000,000,000"). Definitions only.
-use Rattle.std.specs.Prelude.{ℕ, Bool, false, cond, ◌||◌, List, [], ◌∷◌, ltb, eqb}
-use Rattle.config.specs.Ledger.{opened, resumed, counted, moved, time_check, counted_checks, timed_checks}
-use Rattle.config.specs.Refusal.{Check, when, answer_of, rate_beyond}
+use Rattle.std.specs.Prelude.{ℕ, Bool, ◌||◌, List, [], ◌∷◌, ltb, Result}
+use Rattle.config.specs.Alone.{answered, made_or}
+use Rattle.config.specs.Ledger.{counted, moved, time_check, counted_checks, timed_checks}
+use Rattle.config.specs.Refusal.{Check, when, verdict_of}
+use Rattle.config.specs.declared.alone.Alone.{Alone}
+use Rattle.config.specs.declared.alone.Left.{Left}
 use Rattle.config.specs.declared.ledger.Ledger.{Ledger}
+use Rattle.config.specs.declared.refusal.Refusal.{Refusal}
+use Rattle.config.specs.declared.refusal.Refusal.TheVariants.{RateBeyond}
 use Rattle.pacing.specs.TokenBucket.{made, refilled, tried, forced, rated, resized, told}
 use Rattle.pacing.specs.declared.token_bucket.TokenBucket.{TokenBucket}
-use Rattle.pacing.specs.declared.token_bucket.TokenBucketAlone.{TokenBucketAlone}
-use Rattle.pacing.specs.declared.token_bucket.TokenBucketLeft.{TokenBucketLeft}
-use Rattle.pacing.specs.declared.token_bucket.TokenBucketTold.{TokenBucketTold}
-use Rattle.pacing.specs.declared.token_bucket.TokenBucketTried.{TokenBucketTried}
 use Rattle.pacing.specs.declared.token_bucket.Told.{Told}
 use Rattle.pacing.specs.declared.token_bucket.Tried.{Tried}
 
@@ -17,76 +18,57 @@ use Rattle.pacing.specs.declared.token_bucket.Tried.{Tried}
 abbrev pub rate_out : ℕ → Bool
 rate_out rate = ltb rate 1 || ltb 1000000000 rate
 
+-- a capacity or a byte count above 1,000,000,000
+abbrev pub is_beyond : ℕ → Bool
+is_beyond bytes = ltb 1000000000 bytes
+
 -- 6 and 7
 abbrev pub making_checks : ℕ → ℕ → ℕ → List Check
-making_checks time rate capacity =
-    when rate_beyond (rate_out rate || ltb 1000000000 capacity) ∷ time_check time ∷ []
+making_checks time rate capacity = when RateBeyond (rate_out rate || is_beyond capacity) ∷ time_check time ∷ []
 
 -- 6, 7, 17 and 11
 abbrev pub byte_checks : Ledger → ℕ → ℕ → List Check
-byte_checks l time bytes = when rate_beyond (ltb 1000000000 bytes) ∷ timed_checks l time
+byte_checks l time bytes = when RateBeyond (is_beyond bytes) ∷ timed_checks l time
 
 abbrev pub rate_checks : Ledger → ℕ → ℕ → List Check
-rate_checks l time rate = when rate_beyond (rate_out rate) ∷ timed_checks l time
+rate_checks l time rate = when RateBeyond (rate_out rate) ∷ timed_checks l time
 
 -- 6 and 17: the call takes no time
 abbrev pub capacity_checks : Ledger → ℕ → List Check
-capacity_checks l capacity = when rate_beyond (ltb 1000000000 capacity) ∷ counted_checks l
+capacity_checks l capacity = when RateBeyond (is_beyond capacity) ∷ counted_checks l
 
-abbrev pub alone_of : Ledger → TokenBucket → TokenBucketAlone
-alone_of l b = record { ledger = l; bucket = b }
-
--- what a refused making gives: "The result is then zero"
-abbrev pub zero_bucket : TokenBucketAlone
-zero_bucket = alone_of (opened 0) (made 0 0 0)
-
--- accepted: answer 0 and what the step left; turned down: the number, and the old state
-abbrev pub left_by : ℕ → TokenBucketAlone → TokenBucketAlone → TokenBucketLeft
-left_by answer new old = cond (eqb answer 0) (record { answer = 0; alone = new }) (record { answer = answer; alone = old })
-
-unfoldable pub made_alone : ℕ → ℕ → ℕ → TokenBucketLeft
+unfoldable pub made_alone : ℕ → ℕ → ℕ → Result (Alone TokenBucket) Refusal
 made_alone time rate capacity =
-    left_by (answer_of (making_checks time rate capacity)) (alone_of (opened time) (made time rate capacity)) zero_bucket
+    made_or (verdict_of (making_checks time rate capacity)) time (made time rate capacity)
 
-abbrev pub resumed_alone : TokenBucketAlone → ℕ → TokenBucketAlone
-resumed_alone a calls = alone_of (resumed a.ledger calls) a.bucket
-
-unfoldable pub refilled_alone : TokenBucketAlone → ℕ → TokenBucketLeft
+unfoldable pub refilled_alone : Alone TokenBucket → ℕ → Left (Alone TokenBucket) Unit
 refilled_alone a time =
-    left_by (answer_of (timed_checks a.ledger time)) (alone_of (moved a.ledger time) (refilled a.bucket time)) a
+    answered a (verdict_of (timed_checks a.ledger time)) (moved a.ledger time) (refilled a.inner time, tt)
 
--- whether the tokens were taken is false where the call is turned down
-abbrev pub tried_by : ℕ → TokenBucketAlone → ℕ → Tried → TokenBucketTried
-tried_by answer a time t =
-    cond (eqb answer 0) (record { answer = 0; taken = t.taken; alone = alone_of (moved a.ledger time) t.bucket })
-    (record { answer = answer; taken = false; alone = a })
+-- whether the tokens were taken
+abbrev pub tried_pair : Tried → TokenBucket × Bool
+tried_pair t = (t.bucket, t.taken)
 
-unfoldable pub tried_alone : TokenBucketAlone → ℕ → ℕ → TokenBucketTried
+unfoldable pub tried_alone : Alone TokenBucket → ℕ → ℕ → Left (Alone TokenBucket) Bool
 tried_alone a time bytes =
-    tried_by (answer_of (byte_checks a.ledger time bytes)) a time (tried a.bucket time bytes)
+    answered a (verdict_of (byte_checks a.ledger time bytes)) (moved a.ledger time) (tried_pair (tried a.inner time bytes))
 
-unfoldable pub forced_alone : TokenBucketAlone → ℕ → ℕ → TokenBucketLeft
+unfoldable pub forced_alone : Alone TokenBucket → ℕ → ℕ → Left (Alone TokenBucket) Unit
 forced_alone a time bytes =
-    left_by (answer_of (byte_checks a.ledger time bytes))
-    (alone_of (moved a.ledger time) (forced a.bucket time bytes))
-    a
+    answered a (verdict_of (byte_checks a.ledger time bytes)) (moved a.ledger time) (forced a.inner time bytes, tt)
 
-unfoldable pub rated_alone : TokenBucketAlone → ℕ → ℕ → TokenBucketLeft
+unfoldable pub rated_alone : Alone TokenBucket → ℕ → ℕ → Left (Alone TokenBucket) Unit
 rated_alone a time rate =
-    left_by (answer_of (rate_checks a.ledger time rate)) (alone_of (moved a.ledger time) (rated a.bucket time rate)) a
+    answered a (verdict_of (rate_checks a.ledger time rate)) (moved a.ledger time) (rated a.inner time rate, tt)
 
-unfoldable pub resized_alone : TokenBucketAlone → ℕ → TokenBucketLeft
+unfoldable pub resized_alone : Alone TokenBucket → ℕ → Left (Alone TokenBucket) Unit
 resized_alone a capacity =
-    left_by (answer_of (capacity_checks a.ledger capacity))
-    (alone_of (counted a.ledger) (resized a.bucket capacity))
-    a
+    answered a (verdict_of (capacity_checks a.ledger capacity)) (counted a.ledger) (resized a.inner capacity, tt)
 
--- the wait is 0 where the call is turned down
-abbrev pub told_alone_by : ℕ → TokenBucketAlone → ℕ → Told → TokenBucketTold
-told_alone_by answer a time t =
-    cond (eqb answer 0) (record { answer = 0; wait = t.wait; alone = alone_of (moved a.ledger time) t.bucket })
-    (record { answer = answer; wait = 0; alone = a })
+-- the nanoseconds to wait
+abbrev pub told_pair : Told → TokenBucket × ℕ
+told_pair t = (t.bucket, t.wait)
 
-unfoldable pub told_alone : TokenBucketAlone → ℕ → ℕ → TokenBucketTold
+unfoldable pub told_alone : Alone TokenBucket → ℕ → ℕ → Left (Alone TokenBucket) ℕ
 told_alone a time bytes =
-    told_alone_by (answer_of (byte_checks a.ledger time bytes)) a time (told a.bucket time bytes)
+    answered a (verdict_of (byte_checks a.ledger time bytes)) (moved a.ledger time) (told_pair (told a.inner time bytes))

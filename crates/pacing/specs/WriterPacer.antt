@@ -1,6 +1,6 @@
 -- The writer pacer (document 01, writer_pacer.rs): what a hand-in, a send attempt and a rate setting do to one pacer. A hand-in's
 -- step reads the record's class and key alone; its length goes to the entry and its bytes to the slot. Definitions only.
-use Rattle.std.specs.Prelude.{ℕ, ◌+◌, ◌/◌, min, max, Bool, true, false, cond, List, [], ◌∷◌, ltb, eqb, get_or}
+use Rattle.std.specs.Prelude.{ℕ, ◌+◌, ◌/◌, min, max, Bool, true, false, cond, List, [], ◌∷◌, ltb, eqb, get_or, Result, Ok, Err}
 use Rattle.config.specs.Config.{class_number}
 use Rattle.config.specs.Ledger.{moved}
 use Rattle.config.specs.Refusal.{accepted}
@@ -8,11 +8,12 @@ use Rattle.config.specs.declared.config.CongestionConfig.{CongestionConfig}
 use Rattle.config.specs.declared.config.Priority.{Priority}
 use Rattle.config.specs.declared.config.Priority.TheVariants.{P0, P1, P2}
 use Rattle.config.specs.declared.ledger.Ledger.{Ledger}
+use Rattle.config.specs.declared.refusal.Refusal.{Refusal}
 use Rattle.numeric.specs.Integer.{next}
 use Rattle.pacing.specs.Coalescing.{new_queue, queue_of, inserted, exchanged, insert_noted}
 use Rattle.pacing.specs.Entries.{pacer_at, queue_at, counted, entry_of, look, entered}
 use Rattle.pacing.specs.Pool.{limits_of, slot_start, stored, piece}
-use Rattle.pacing.specs.Ring.{is_full, fate_number, new_ring, slot_at, popped, placed, refused}
+use Rattle.pacing.specs.Ring.{is_full, new_ring, slot_at, popped, placed, refused}
 use Rattle.pacing.specs.TokenBucket.{tried, forced, told, rated, resized}
 use Rattle.pacing.specs.TokenBucket as bucket
 use Rattle.pacing.specs.declared.coalescing.Inserted.{Inserted}
@@ -69,6 +70,15 @@ with_tokens p b = record { queues = p.queues; next_sequence = p.next_sequence; t
 -- a bucket's capacity, as the Rust's `with_rate` and `set_rate` have it: 100 ms of the rate, at least 1,500
 abbrev pub burst_of : ℕ → ℕ
 burst_of rate = max 1500 (rate / 10)
+
+-- a place that no pacer has: every number 0
+abbrev pub no_core : PacerCore
+no_core =
+    record {
+      queues = record { p0 = new_ring 0; p1 = new_ring 0; p2 = new_queue 0 };
+      next_sequence = 0;
+      tokens = bucket.made 0 0 0;
+    }
 
 -- a new pacer, its bucket full
 abbrev pub made : ℕ → Limits → ℕ → PacerCore
@@ -276,39 +286,39 @@ hand_in_written l i c kept n key =
 unfoldable pub hand_in_stored : List ℕ → Limits → ℕ → Priority → Kept → List ℕ → List ℕ
 hand_in_stored p m i c kept bytes = cond (is_full kept.fate) p (stored p (slot_start m i c kept.slot) bytes)
 
--- ---- calls on a pacer's parts, once the checks have answered
+-- ---- calls on a pacer's parts, once the checks have answered: a call that is turned down leaves all as it was
 
 abbrev pub hand_leaves : Ledger → ℕ → Enqueued → Handed
-hand_leaves l time x = record { answer = fate_number x.kept.fate; ledger = moved l time; core = x.core }
+hand_leaves l time x = record { ledger = moved l time; core = x.core; answer = Ok x.kept.fate }
 
 -- "12 .. counts as an accepted call, moving the last time, and uses up a sequence number"
-unfoldable pub handed_by : ℕ → Ledger → PacerCore → List ℕ → ℕ → ℕ → Priority → InstanceKey → Handed
-handed_by answer l p words time i c key =
-    cond (eqb answer 0) (hand_leaves l time (enqueue p words i c key)) (record { answer = answer; ledger = l; core = p })
+unfoldable pub handed_by : Result Unit Refusal → Ledger → PacerCore → List ℕ → ℕ → ℕ → Priority → InstanceKey → Handed
+handed_by (Err e) l p words time i c key = record { ledger = l; core = p; answer = Err e }
+handed_by (Ok u) l p words time i c key = hand_leaves l time (enqueue p words i c key)
 
-unfoldable pub words_handed_by : ℕ → PacerCore → List ℕ → ℕ → Priority → InstanceKey → ℕ → List ℕ
-words_handed_by answer p words i c key n =
-    cond (eqb answer 0) (hand_in_written words i c (enqueue p words i c key).kept n key) words
+unfoldable pub words_handed_by : Result Unit Refusal → PacerCore → List ℕ → ℕ → Priority → InstanceKey → ℕ → List ℕ
+words_handed_by (Err e) p words i c key n = words
+words_handed_by (Ok u) p words i c key n = hand_in_written words i c (enqueue p words i c key).kept n key
 
-unfoldable pub pool_handed_by : ℕ → PacerCore → List ℕ → Limits → ℕ → Priority → InstanceKey → List ℕ → List ℕ → List ℕ
-pool_handed_by answer p words m i c key bytes pool =
-    cond (eqb answer 0) (hand_in_stored pool m i c (enqueue p words i c key).kept bytes) pool
+unfoldable pub pool_handed_by :
+    Result Unit Refusal → PacerCore → List ℕ → Limits → ℕ → Priority → InstanceKey → List ℕ → List ℕ → List ℕ
+pool_handed_by (Err e) p words m i c key bytes pool = pool
+pool_handed_by (Ok u) p words m i c key bytes pool = hand_in_stored pool m i c (enqueue p words i c key).kept bytes
 
 -- with control off a send attempt gets the Rust's empty
 unfoldable pub attempt_by : Bool → PacerCore → List ℕ → ℕ → ℕ → Attempt
 attempt_by enabled p words i time = cond enabled (attempt p words i time) (record { core = p; action = Empty })
 
 abbrev pub send_leaves : Ledger → ℕ → Attempt → SendTried
-send_leaves l time x = record { answer = action_number x.action; ledger = moved l time; core = x.core; action = x.action }
+send_leaves l time x = record { ledger = moved l time; core = x.core; answer = Ok x.action }
 
-unfoldable pub sent_by : ℕ → Bool → Ledger → PacerCore → List ℕ → ℕ → ℕ → SendTried
-sent_by answer enabled l p words time i =
-    cond (eqb answer 0) (send_leaves l time (attempt_by enabled p words i time))
-    (record { answer = answer; ledger = l; core = p; action = Empty })
+unfoldable pub sent_by : Result Unit Refusal → Bool → Ledger → PacerCore → List ℕ → ℕ → ℕ → SendTried
+sent_by (Err e) enabled l p words time i = record { ledger = l; core = p; answer = Err e }
+sent_by (Ok u) enabled l p words time i = send_leaves l time (attempt_by enabled p words i time)
 
-unfoldable pub words_sent_by : ℕ → Bool → PacerCore → List ℕ → ℕ → ℕ → List ℕ
-words_sent_by answer enabled p words time i =
-    cond (eqb answer 0) (send_noted words i (attempt_by enabled p words i time).action) words
+unfoldable pub words_sent_by : Result Unit Refusal → Bool → PacerCore → List ℕ → ℕ → ℕ → List ℕ
+words_sent_by (Err e) enabled p words time i = words
+words_sent_by (Ok u) enabled p words time i = send_noted words i (attempt_by enabled p words i time).action
 
 -- "A sent record is shown as the middle part of the pool where it was kept."
 abbrev pub sent_bytes : Limits → ℕ → SendAction → List ℕ → List ℕ

@@ -1,15 +1,16 @@
 // The coalescing queue for background records: under one key only the latest is kept. And the keys, with the hash they are made with.
 ghost use Rattle.std.specs.Prelude.{◌≡◌, length, drop};
-ghost use Rattle.config.specs.Refusal.{answer_of};
+ghost use Rattle.config.specs.Refusal.{verdict_of};
 ghost use Rattle.pacing.specs.Coalescing.{fnv1a, joined, joined_all, key_of, keyless_of, new_queue, found, inserted, popped_front, exchanged, insert_noted, stats_in};
-ghost use Rattle.pacing.specs.CoalescingQueueAlone.{front_in, making_checks, insert_checks, pop_checks, insert_written, insert_stored, inserted_by, words_inserted_by, pool_inserted_by, front_noted, popped_by, words_popped_by, made_alone, resumed_alone, inserted_alone, pool_inserted, popped_alone, peeked_alone, shown_bytes};
+ghost use Rattle.pacing.specs.CoalescingQueueAlone.{front_in, making_checks, insert_checks, pop_checks, insert_written, insert_stored, front_noted, made_alone, resumed_alone, inserted_alone, pool_inserted, popped_alone, peeked_alone, shown_bytes};
 
 use crate::entries::Entry;
 use crate::ring::{Fate, Kept, Ring};
 use crate::{entries, pool};
+use config::alone::Left;
 use config::config::Priority;
 use config::ledger::Ledger;
-use config::refusal;
+use config::refusal::Refusal;
 
 // FNV-1a, 64 bits: the offset basis and the prime.
 const FNV1A_OFFSET_BASIS: u64 = 0xcbf2_9ce4_8422_2325;
@@ -17,7 +18,7 @@ const FNV1A_OFFSET_BASIS: u64 = 0xcbf2_9ce4_8422_2325;
 const FNV1A_PRIME: u64 = 0x0100_0000_01b3;
 
 // Two hashes are the key: of the topic's name and of the instance's key bytes.
-#[derive(Clone, Copy)]
+#[derive(Clone, Copy, Debug, PartialEq, Eq)]
 pub struct InstanceKey {
     pub topic_hash: u64,
     pub key_hash: u64,
@@ -56,6 +57,7 @@ impl InstanceKey {
 
 // FNV-1a: each byte is joined by xor, then the product with the prime is taken modulo 2^64. Eight bytes go in a turn, then the rest; of every
 // second product the factors are swapped.
+// Stays: byte after byte takes more time than the Rust's loop, and this takes as much.
 pub fn hash_bytes(bytes: &[u8]) -> u64
     ensures { result ≡ fnv1a bytes.now }
 {
@@ -73,20 +75,9 @@ pub fn hash_bytes(bytes: &[u8]) -> u64
         hash = join_swapped(hash, bytes[i + 7]);
         i += 8;
     }
-    join_rest(hash, bytes, eights)
-}
-
-// A hash with every byte from a place on.
-fn join_rest(before: u64, bytes: &[u8], from: usize) -> u64
-    ensures { result ≡ joined_all before (drop from bytes.now) }
-{
-    let mut hash = before;
-    let mut i = from;
-    while i < bytes.len() {
-        hash = join(hash, bytes[i]);
-        i += 1;
-    }
-    hash
+    bytes[eights..]
+        .iter()
+        .fold(hash, |hash, byte| join(hash, *byte))
 }
 
 // A hash with one byte more.
@@ -115,27 +106,23 @@ const DROPPED: usize = 513;
 const TOTAL_BYTES: usize = 514;
 
 // What decides: the ring and the queue's own sequence numbers. Entries and counts lie in lent words.
-#[derive(Clone, Copy)]
+#[derive(Clone, Copy, Debug, PartialEq, Eq)]
 pub struct CoalescingQueue {
     pub(crate) ring: Ring,
     pub(crate) next_sequence: u64,
 }
 
-// The oldest sample that waits, if one does: its slot and its entry.
-#[derive(Clone, Copy)]
-pub enum Front {
-    Nothing,
-    Sample {
-        slot: u16,
-        sequence: u64,
-        length: u64,
-        topic_hash: u64,
-        key_hash: u64,
-    },
+// A sample that waits: its slot and its entry.
+#[derive(Clone, Copy, Debug, PartialEq, Eq)]
+pub struct Sample {
+    pub slot: u16,
+    pub sequence: u64,
+    pub length: u64,
+    pub key: InstanceKey,
 }
 
 // The Rust's statistics, without the fill ratio.
-#[derive(Clone, Copy)]
+#[derive(Clone, Copy, Debug, PartialEq, Eq)]
 pub struct CoalescingStats {
     pub instances: u16,
     pub bytes: u64,
@@ -143,7 +130,7 @@ pub struct CoalescingStats {
     pub dropped: u64,
 }
 
-#[derive(Clone, Copy)]
+#[derive(Clone, Copy, Debug, PartialEq, Eq)]
 pub struct Inserted {
     pub queue: CoalescingQueue,
     pub kept: Kept,
@@ -154,18 +141,14 @@ fn find(ring: Ring, words: &[u64], at: u32, key: InstanceKey) -> u16
     ensures { result ≡ found ring words.now at key }
 {
     let count = ring.count;
-    let topic = key.topic_hash;
-    let hash = key.key_hash;
     let mut k: u16 = 0;
     let place = loop {
         if count <= k {
             break count;
         }
         let entry = entries::look_at(words, at, Priority::P2, ring.slot_at(k));
-        if entry.key.topic_hash == topic {
-            if entry.key.key_hash == hash {
-                break k;
-            }
+        if entry.key == key {
+            break k;
         }
         k += 1;
     };
@@ -188,31 +171,28 @@ impl CoalescingQueue {
         ensures { result ≡ inserted self words.now at key }
     {
         let sequence = self.next_sequence;
-        let next_sequence = numeric::integer::increment(sequence);
-        let ring = self.ring;
-        let place = find(ring, words, at, key);
-        if place < ring.count {
+        let next_sequence = sequence.saturating_add(1);
+        let place = find(self.ring, words, at, key);
+        if place < self.ring.count {
             return Inserted {
                 queue: CoalescingQueue {
-                    ring,
                     next_sequence,
+                    ..self
                 },
                 kept: Kept {
                     fate: Fate::Replaced,
-                    slot: ring.slot_at(place),
+                    slot: self.ring.slot_at(place),
                     sequence,
                 },
             };
         }
-        let placed = ring.place(sequence);
-        let after = placed.ring;
-        let kept = placed.kept;
+        let placed = self.ring.place(sequence);
         Inserted {
             queue: CoalescingQueue {
-                ring: after,
+                ring: placed.ring,
                 next_sequence,
             },
-            kept,
+            kept: placed.kept,
         }
     }
 
@@ -220,11 +200,10 @@ impl CoalescingQueue {
     pub fn pop_front(self) -> CoalescingQueue
         ensures { result ≡ popped_front self }
     {
-        let ring = self.ring;
-        if 0 < ring.count {
+        if 0 < self.ring.count {
             CoalescingQueue {
-                ring: ring.pop(),
-                next_sequence: self.next_sequence,
+                ring: self.ring.pop(),
+                ..self
             }
         } else {
             self
@@ -232,22 +211,20 @@ impl CoalescingQueue {
     }
 
     // The oldest stays: what it is, and its slot.
-    pub fn peek_front(self, words: &[u64], at: u32) -> Front
+    pub fn peek_front(self, words: &[u64], at: u32) -> Option<Sample>
         ensures { result ≡ front_in self words.now at }
     {
-        let ring = self.ring;
-        if ring.count == 0 {
-            return Front::Nothing;
+        if self.ring.count == 0 {
+            return None;
         }
-        let slot = ring.slot_at(0);
+        let slot = self.ring.slot_at(0);
         let entry = entries::look_at(words, at, Priority::P2, slot);
-        Front::Sample {
+        Some(Sample {
             slot,
             sequence: entry.sequence,
             length: entry.length,
-            topic_hash: entry.key.topic_hash,
-            key_hash: entry.key.key_hash,
-        }
+            key: entry.key,
+        })
     }
 
     pub fn stats(self, words: &[u64], at: u32) -> CoalescingStats
@@ -279,107 +256,62 @@ pub(crate) fn exchange(words: &mut [u64], at: u32, leave: u64, come: u64)
     ensures { words.new ≡ exchanged words.old at leave come }
 {
     let place = at as usize + TOTAL_BYTES;
-    let stay = numeric::integer::saturating_sub(entries::get(words, place), leave);
-    entries::put(words, place, numeric::integer::saturating_add(stay, come));
+    let stay = entries::get(words, place).saturating_sub(leave);
+    entries::put(words, place, stay.saturating_add(come));
 }
 
 // The queue's counts after an insert, before the entry is written: a record that gives way lies in the slot that the new one takes.
 pub(crate) fn note_insert(words: &mut [u64], at: u32, kept: Kept, length: u64)
     ensures { words.new ≡ insert_noted words.old at kept length }
 {
-    let old = entries::look_at(words, at, Priority::P2, kept.slot);
-    let leave = old.length;
-    let fate = kept.fate;
-    match fate {
-        Fate::Full => {
-            return;
-        }
-        Fate::Joined => {
-            exchange(words, at, 0, length);
-            return;
-        }
+    let leave = entries::look_at(words, at, Priority::P2, kept.slot).length;
+    match kept.fate {
+        Fate::Full => {}
+        Fate::Joined => exchange(words, at, 0, length),
         Fate::PushedOut => {
             entries::count(words, at as usize + DROPPED, 1);
             exchange(words, at, leave, length);
-            return;
         }
         Fate::Replaced => {
             entries::count(words, at as usize + COALESCED, 1);
             exchange(words, at, leave, length);
-            return;
         }
     }
 }
 
-// A queue used alone, with its own call count: the public calls, which turn down by number. The Rust's queue is steered by no time, so none is taken.
-#[derive(Clone, Copy)]
+// A queue used alone, with its own call count: the public calls. The Rust's queue is steered by no time, so none is taken.
+#[derive(Clone, Copy, Debug, PartialEq, Eq)]
 pub struct CoalescingQueueAlone {
     ledger: Ledger,
     queue: CoalescingQueue,
     words: [u64; QUEUE_WORDS],
 }
 
-// The answer number and what a call leaves.
-#[derive(Clone, Copy)]
-pub struct CoalescingQueueLeft {
-    pub answer: u8,
-    pub alone: CoalescingQueueAlone,
-}
-
-// The same with the sample that was popped.
-#[derive(Clone, Copy)]
-pub struct CoalescingQueuePopped {
-    pub answer: u8,
-    pub front: Front,
-    pub alone: CoalescingQueueAlone,
-}
-
-// The parts of a queue that a call changes by value, with its answer.
-#[derive(Clone, Copy)]
-struct QueueInserted {
-    answer: u8,
-    ledger: Ledger,
-    queue: CoalescingQueue,
-}
-
-#[derive(Clone, Copy)]
-struct QueuePopped {
-    answer: u8,
-    ledger: Ledger,
-    queue: CoalescingQueue,
-    front: Front,
-}
-
-// 2 or 0, for a limit of 1 to 128.
-fn check_making(max_instances: usize) -> u8
-    ensures { result ≡ answer_of (making_checks max_instances) }
+// 2, for a limit outside 1 to 128.
+fn check_making(max_instances: usize) -> Result<(), Refusal>
+    ensures { result ≡ verdict_of (making_checks max_instances) }
 {
-    if max_instances < 1 {
-        return refusal::SETTINGS_BEYOND;
-    }
-    if 128 < max_instances {
-        return refusal::SETTINGS_BEYOND;
-    }
-    refusal::ACCEPTED
+    Refusal::SettingsBeyond.when(max_instances < 1 || 128 < max_instances)
 }
 
-// 8, 17 or 0.
-fn check_pop(ledger: Ledger, limit: u16, pool_length: usize) -> u8
-    ensures { result ≡ answer_of (pop_checks ledger limit pool_length) }
+// 8 or 17.
+fn check_pop(ledger: Ledger, limit: u16, pool_length: usize) -> Result<(), Refusal>
+    ensures { result ≡ verdict_of (pop_checks ledger limit pool_length) }
 {
-    if pool::is_short(pool_length, limit as usize) {
-        return refusal::BUFFER_TOO_SHORT;
-    }
+    Refusal::BufferTooShort.when(pool::is_short(pool_length, limit as usize))?;
     ledger.check_counted()
 }
 
-// 3, 8, 17 or 0.
-fn check_insert(ledger: Ledger, limit: u16, pool_length: usize, length: usize) -> u8
-    ensures { result ≡ answer_of (insert_checks ledger limit pool_length length) }
+// 3, 8 or 17.
+fn check_insert(
+    ledger: Ledger,
+    limit: u16,
+    pool_length: usize,
+    length: usize,
+) -> Result<(), Refusal>
+    ensures { result ≡ verdict_of (insert_checks ledger limit pool_length length) }
 {
-    if pool::SLOT < length {
-        return refusal::RECORD_TOO_LONG;
-    }
+    Refusal::RecordTooLong.when(pool::SLOT < length)?;
     check_pop(ledger, limit, pool_length)
 }
 
@@ -398,168 +330,92 @@ fn write(words: &mut [u64], pool: &mut [u8], kept: Kept, key: InstanceKey, sampl
     pool::store(pool, kept.slot as usize * pool::SLOT, sample);
 }
 
-// An insert on the parts that it touches, once the checks have answered.
-fn insert_in(
-    answer: u8,
-    ledger: Ledger,
-    queue: CoalescingQueue,
-    words: &mut [u64; QUEUE_WORDS],
-    pool: &mut [u8],
-    key: InstanceKey,
-    sample: &[u8],
-) -> QueueInserted
-    ensures value { result ≡ inserted_by answer ledger queue words.old key }
-    ensures words_after { words.new ≡ words_inserted_by answer queue words.old key (length sample.now) }
-    ensures pool_after { pool.new ≡ pool_inserted_by answer queue words.old key sample.now pool.old }
-{
-    if answer != 0 {
-        return QueueInserted {
-            answer,
-            ledger,
-            queue,
-        };
-    }
-    let inserted = queue.insert(words, 0, key);
-    let kept = inserted.kept;
-    let after = inserted.queue;
-    write(words, pool, kept, key, sample);
-    QueueInserted {
-        answer: 0,
-        ledger: ledger.counted(),
-        queue: after,
-    }
-}
-
 // The bytes of a popped sample wait no more.
-fn note_front(words: &mut [u64], front: Front)
+fn note_front(words: &mut [u64], front: Option<Sample>)
     ensures { words.new ≡ front_noted words.old front }
 {
-    match front {
-        Front::Nothing => {
-            return;
-        }
-        Front::Sample {
-            slot: _,
-            sequence: _,
-            length,
-            topic_hash: _,
-            key_hash: _,
-        } => {
-            exchange(words, 0, length, 0);
-            return;
-        }
-    }
-}
-
-// A pop on the parts that it touches, once the checks have answered.
-fn pop_in(
-    answer: u8,
-    ledger: Ledger,
-    queue: CoalescingQueue,
-    words: &mut [u64; QUEUE_WORDS],
-) -> QueuePopped
-    ensures value { result ≡ popped_by answer ledger queue words.old }
-    ensures words_after { words.new ≡ words_popped_by answer queue words.old }
-{
-    if answer != 0 {
-        return QueuePopped {
-            answer,
-            ledger,
-            queue,
-            front: Front::Nothing,
-        };
-    }
-    let front = queue.peek_front(words, 0);
-    note_front(words, front);
-    QueuePopped {
-        answer: 0,
-        ledger: ledger.counted(),
-        queue: queue.pop_front(),
-        front,
+    if let Some(sample) = front {
+        exchange(words, 0, sample.length, 0);
     }
 }
 
 impl CoalescingQueueAlone {
     // An empty queue of 1 to 128 samples.
-    pub fn new(max_instances: usize) -> CoalescingQueueLeft
+    pub fn new(max_instances: usize) -> Result<CoalescingQueueAlone, Refusal>
         ensures { result ≡ made_alone max_instances }
     {
-        let answer = check_making(max_instances);
-        if answer != 0 {
-            return CoalescingQueueLeft {
-                answer,
-                alone: CoalescingQueueAlone {
-                    ledger: Ledger::new(0),
-                    queue: CoalescingQueue::new(0),
-                    words: [0; QUEUE_WORDS],
-                },
-            };
-        }
-        CoalescingQueueLeft {
-            answer: 0,
-            alone: CoalescingQueueAlone {
-                ledger: Ledger::new(0),
-                queue: CoalescingQueue::new(pool::limit_of(max_instances)),
-                words: [0; QUEUE_WORDS],
-            },
-        }
+        check_making(max_instances)?;
+        Ok(CoalescingQueueAlone {
+            ledger: Ledger::new(0),
+            queue: CoalescingQueue::new(pool::limit_of(max_instances)),
+            words: [0; QUEUE_WORDS],
+        })
     }
 
     // The same queue with a call count that was kept elsewhere, as over a restart.
-    pub fn resumed(mut self, calls: u64) -> CoalescingQueueAlone
+    pub fn resumed(self, calls: u64) -> CoalescingQueueAlone
         ensures { result ≡ resumed_alone self calls }
     {
-        let ledger = self.ledger.resumed(calls);
-        self.ledger = ledger;
-        self
-    }
-
-    pub fn insert(mut self, pool: &mut [u8], key: InstanceKey, sample: &[u8]) -> CoalescingQueueLeft
-        ensures value { result ≡ inserted_alone self (length pool.old) key (length sample.now) }
-        ensures pool_after { pool.new ≡ pool_inserted self pool.old key sample.now }
-    {
-        let queue = self.queue;
-        let answer = check_insert(self.ledger, queue.ring.limit, pool.len(), sample.len());
-        let inserted = insert_in(
-            answer,
-            self.ledger,
-            queue,
-            &mut self.words,
-            pool,
-            key,
-            sample,
-        );
-        let ledger = inserted.ledger;
-        let after = inserted.queue;
-        self.ledger = ledger;
-        self.queue = after;
-        CoalescingQueueLeft {
-            answer: inserted.answer,
-            alone: self,
+        CoalescingQueueAlone {
+            ledger: self.ledger.resumed(calls),
+            ..self
         }
     }
 
+    // In place: turned down it is left as it was.
+    fn put(&mut self, pool: &mut [u8], key: InstanceKey, sample: &[u8]) -> Result<(), Refusal>
+        ensures value { inserted_alone self.old (length pool.old) key (length sample.now) ≡ record { state = self.new; answer = result } }
+        ensures pool_after { pool.new ≡ pool_inserted self.old pool.old key sample.now }
+    {
+        check_insert(self.ledger, self.queue.ring.limit, pool.len(), sample.len())?;
+        let inserted = self.queue.insert(&self.words, 0, key);
+        write(&mut self.words, pool, inserted.kept, key, sample);
+        self.ledger = self.ledger.counted();
+        self.queue = inserted.queue;
+        Ok(())
+    }
+
+    pub fn insert(
+        mut self,
+        pool: &mut [u8],
+        key: InstanceKey,
+        sample: &[u8],
+    ) -> Left<CoalescingQueueAlone, ()>
+        ensures value { result ≡ inserted_alone self (length pool.old) key (length sample.now) }
+        ensures pool_after { pool.new ≡ pool_inserted self pool.old key sample.now }
+    {
+        let answer = self.put(pool, key, sample);
+        Left {
+            state: self,
+            answer,
+        }
+    }
+
+    // In place: turned down it is left as it was.
+    fn take(&mut self, pool: &[u8]) -> Result<Option<Sample>, Refusal>
+        ensures { popped_alone self.old (length pool.now) ≡ record { state = self.new; answer = result } }
+    {
+        check_pop(self.ledger, self.queue.ring.limit, pool.len())?;
+        let front = self.queue.peek_front(&self.words, 0);
+        note_front(&mut self.words, front);
+        self.ledger = self.ledger.counted();
+        self.queue = self.queue.pop_front();
+        Ok(front)
+    }
+
     // The oldest sample, whose bytes `sample_bytes` shows; an empty queue gives none.
-    pub fn pop_front(mut self, pool: &[u8]) -> CoalescingQueuePopped
+    pub fn pop_front(mut self, pool: &[u8]) -> Left<CoalescingQueueAlone, Option<Sample>>
         ensures { result ≡ popped_alone self (length pool.now) }
     {
-        let queue = self.queue;
-        let answer = check_pop(self.ledger, queue.ring.limit, pool.len());
-        let popped = pop_in(answer, self.ledger, queue, &mut self.words);
-        let ledger = popped.ledger;
-        let after = popped.queue;
-        let front = popped.front;
-        self.ledger = ledger;
-        self.queue = after;
-        CoalescingQueuePopped {
-            answer: popped.answer,
-            front,
-            alone: self,
+        let answer = self.take(pool);
+        Left {
+            state: self,
+            answer,
         }
     }
 
     // The oldest sample, which stays. Reading is no call: it is not counted.
-    pub fn peek_front(self) -> Front
+    pub fn peek_front(self) -> Option<Sample>
         ensures { result ≡ peeked_alone self }
     {
         self.queue.peek_front(&self.words, 0)
@@ -593,17 +449,15 @@ impl CoalescingQueueAlone {
 }
 
 // The bytes of a sample: the middle part of the pool where it is kept.
-pub fn sample_bytes(front: Front, pool: &[u8]) -> &[u8]
+pub fn sample_bytes(front: Option<Sample>, pool: &[u8]) -> &[u8]
     ensures { result.now ≡ shown_bytes front pool.now }
 {
     match front {
-        Front::Nothing => pool::shown(pool, 0, 0),
-        Front::Sample {
-            slot,
-            sequence: _,
-            length,
-            topic_hash: _,
-            key_hash: _,
-        } => pool::shown(pool, slot as usize * pool::SLOT, length as usize),
+        None => pool::shown(pool, 0, 0),
+        Some(sample) => pool::shown(
+            pool,
+            sample.slot as usize * pool::SLOT,
+            sample.length as usize,
+        ),
     }
 }

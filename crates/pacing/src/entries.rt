@@ -10,7 +10,7 @@ use config::config::Priority;
 pub const PACER_WORDS: usize = 1805;
 
 // What is kept of a waiting record; P0 and P1 have no key, which is then zero.
-#[derive(Clone, Copy)]
+#[derive(Clone, Copy, Debug, PartialEq, Eq)]
 pub struct Entry {
     pub sequence: u64,
     pub length: u64,
@@ -37,7 +37,7 @@ pub fn put(words: &mut [u64], at: usize, value: u64)
 pub fn count(words: &mut [u64], at: usize, n: u64)
     ensures { words.new ≡ counted words.old at n }
 {
-    let more = numeric::integer::saturating_add(get(words, at), n);
+    let more = get(words, at).saturating_add(n);
     put(words, at, more);
 }
 

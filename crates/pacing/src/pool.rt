@@ -1,5 +1,5 @@
 // The bytes of waiting records, in a lent pool of slots of 1,472 bytes.
-ghost use Rattle.std.specs.Prelude.{◌≡◌, ◌+◌, ◌*◌, ◌<◌, min};
+ghost use Rattle.std.specs.Prelude.{◌≡◌, ◌+◌, ◌*◌, ◌<◌};
 ghost use Rattle.pacing.specs.Pool.{limit_of, limits_of, slots_of, slots_before, slot_start, is_short, copied, stored, piece};
 
 use config::config::{CongestionConfig, Priority};
@@ -8,7 +8,7 @@ use config::config::{CongestionConfig, Priority};
 pub const SLOT: usize = 1472;
 
 // How many slots each queue of a pacer has.
-#[derive(Clone, Copy)]
+#[derive(Clone, Copy, Debug, PartialEq, Eq)]
 pub struct Limits {
     pub(crate) p0: u16,
     pub(crate) p1: u16,
@@ -19,7 +19,7 @@ pub struct Limits {
 pub(crate) fn limit_of(limit: usize) -> u16
     ensures { result ≡ limit_of limit }
 {
-    if limit < 65535 { limit as u16 } else { 65535 }
+    limit.min(65535) as u16
 }
 
 impl Limits {
@@ -74,13 +74,8 @@ impl Limits {
 fn copy_record(slot: &mut [u8], sample: &[u8])
     ensures { slot.new ≡ copied slot.old sample.now }
 {
-    if slot.len() < sample.len() {
-        return;
-    }
-    let mut i: usize = 0;
-    while i < sample.len() {
-        slot[i] = sample[i];
-        i += 1;
+    if sample.len() <= slot.len() {
+        slot[..sample.len()].copy_from_slice(sample);
     }
 }
 
@@ -89,13 +84,9 @@ fn copy_record(slot: &mut [u8], sample: &[u8])
 pub fn store(pool: &mut [u8], start: usize, sample: &[u8])
     ensures { pool.new ≡ stored pool.old start sample.now }
 {
-    if pool.len() < start {
-        return;
+    if start <= pool.len() && SLOT <= pool.len() - start {
+        copy_record(&mut pool[start..start + SLOT], sample);
     }
-    if pool.len() - start < SLOT {
-        return;
-    }
-    copy_record(&mut pool[start..start + SLOT], sample);
 }
 
 // Whether a pool of so many bytes has fewer slots than are needed.
@@ -105,17 +96,11 @@ pub fn is_short(pool_length: usize, slots: usize) -> bool
     pool_length / SLOT < slots
 }
 
-fn lesser(a: usize, b: usize) -> usize
-    ensures { result ≡ min a b }
-{
-    if a < b { a } else { b }
-}
-
 // The record that lies at a place of the pool: the middle part from there on, as long as it is, cut at the pool's end.
 pub fn shown(pool: &[u8], start: usize, length: usize) -> &[u8]
     ensures { result.now ≡ piece pool.now start length }
 {
-    let a = lesser(start, pool.len());
-    let n = lesser(length, pool.len() - a);
+    let a = start.min(pool.len());
+    let n = length.min(pool.len() - a);
     &pool[a..a + n]
 }

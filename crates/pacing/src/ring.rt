@@ -2,10 +2,11 @@
 ghost use Rattle.std.specs.Prelude.{◌≡◌, ◌<◌, max};
 ghost use Rattle.pacing.specs.Ring.{is_full, fate_number, new_ring, slot_at, popped, roomy, pushed, next_slot, placed};
 
-use config::refusal;
+use config::answer::Numbered;
+use config::refusal::{ACCEPTED, QUEUE_FULL};
 
 // The head has twice the width it needs, so that a ring is eight bytes and is moved at once.
-#[derive(Clone, Copy)]
+#[derive(Clone, Copy, Debug, PartialEq, Eq)]
 pub struct Ring {
     pub(crate) head: u32,
     pub(crate) count: u16,
@@ -13,7 +14,7 @@ pub struct Ring {
 }
 
 // What became of a record handed in: refused, at the tail, at the tail with the oldest pushed out, or in the place of the one with its key.
-#[derive(Clone, Copy)]
+#[derive(Clone, Copy, Debug, PartialEq, Eq)]
 pub enum Fate {
     Full,
     Joined,
@@ -25,36 +26,28 @@ impl Fate {
     pub fn is_full(self) -> bool
         ensures { result ≡ is_full self }
     {
-        match self {
-            Fate::Full => true,
-            Fate::Joined => false,
-            Fate::PushedOut => false,
-            Fate::Replaced => false,
-        }
+        matches!(self, Fate::Full)
     }
+}
 
-    // Document 01's answer number: 12 where the queue was full, else 0.
-    pub fn number(self) -> u8
-        ensures { result ≡ fate_number self }
-    {
-        match self {
-            Fate::Full => refusal::QUEUE_FULL,
-            Fate::Joined => refusal::ACCEPTED,
-            Fate::PushedOut => refusal::ACCEPTED,
-            Fate::Replaced => refusal::ACCEPTED,
-        }
+// 12 where the queue was full, which counts as an accepted call, else 0.
+impl Numbered for Fate {
+    ghost number_is = { fate_number };
+
+    fn number(&self) -> u8 {
+        if self.is_full() { QUEUE_FULL } else { ACCEPTED }
     }
 }
 
 // A record's fate, the slot that is its own (0 where it is refused) and the sequence number that it used up.
-#[derive(Clone, Copy)]
+#[derive(Clone, Copy, Debug, PartialEq, Eq)]
 pub struct Kept {
     pub fate: Fate,
     pub slot: u16,
     pub sequence: u64,
 }
 
-#[derive(Clone, Copy)]
+#[derive(Clone, Copy, Debug, PartialEq, Eq)]
 pub struct Placed {
     pub ring: Ring,
     pub kept: Kept,
@@ -75,7 +68,7 @@ impl Ring {
     fn size(self) -> u16
         ensures { result ≡ max 1 self.limit }
     {
-        if self.limit == 0 { 1 } else { self.limit }
+        self.limit.max(1)
     }
 
     // The slot `place` places behind the head.
@@ -91,12 +84,10 @@ impl Ring {
     pub fn pop(self) -> Ring
         ensures { result ≡ popped self }
     {
-        let head = self.slot_at(1);
-        let count = self.count;
         Ring {
-            head: head as u32,
-            count: if 0 < count { count - 1 } else { 0 },
-            limit: self.limit,
+            head: self.slot_at(1) as u32,
+            count: self.count.saturating_sub(1),
+            ..self
         }
     }
 
@@ -118,9 +109,8 @@ impl Ring {
     {
         let r = self.room();
         Ring {
-            head: r.head,
             count: r.count + 1,
-            limit: r.limit,
+            ..r
         }
     }
 
@@ -136,26 +126,18 @@ impl Ring {
     pub fn place(self, sequence: u64) -> Placed
         ensures { result ≡ placed self sequence }
     {
-        let slot = self.next_slot();
-        let ring = self.push();
-        if self.count < self.limit {
-            Placed {
-                ring,
-                kept: Kept {
-                    fate: Fate::Joined,
-                    slot,
-                    sequence,
-                },
-            }
+        let fate = if self.count < self.limit {
+            Fate::Joined
         } else {
-            Placed {
-                ring,
-                kept: Kept {
-                    fate: Fate::PushedOut,
-                    slot,
-                    sequence,
-                },
-            }
+            Fate::PushedOut
+        };
+        Placed {
+            ring: self.push(),
+            kept: Kept {
+                fate,
+                slot: self.next_slot(),
+                sequence,
+            },
         }
     }
 

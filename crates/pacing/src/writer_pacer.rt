@@ -1,20 +1,23 @@
 // The writer pacer: three queues in the order of their class, and a token bucket that paces what is not urgent.
 // Steps read entries as lent words and decide; what they decide is written in one place.
 ghost use Rattle.std.specs.Prelude.{◌≡◌, length};
-ghost use Rattle.config.specs.Refusal.{answer_of};
+ghost use Rattle.config.specs.Refusal.{verdict_of};
 ghost use Rattle.config.specs.declared.config.Priority.TheVariants.{P2};
-ghost use Rattle.pacing.specs.WriterPacer.{pacer_config_of, ring_of, with_ring, burst_of, made, numbered, placed_in, enqueue_p0, enqueue_p1, enqueue_p2, enqueue, action_number, front_of, gone, attempt_p0, paid, waited, limited, attempt, rate_set, count_at, count_in, drop_noted, hand_in_noted, sent_noted, send_noted, metrics_in, total_bytes_in, hand_in_written, hand_in_stored, handed_by, words_handed_by, pool_handed_by, sent_by, words_sent_by, sent_bytes};
-ghost use Rattle.pacing.specs.WriterPacerAlone.{default_key, making_checks, hand_in_checks, send_checks, zero_pacer, made_alone, resumed_alone, handed_alone, pool_handed, sent_alone, rated_alone};
+ghost use Rattle.pacing.specs.WriterPacer.{pacer_config_of, ring_of, with_ring, burst_of, no_core, made, numbered, placed_in, enqueue_p0, enqueue_p1, enqueue_p2, enqueue, action_number, front_of, gone, attempt_p0, paid, waited, limited, attempt, attempt_by, rate_set, count_at, count_in, drop_noted, hand_in_noted, sent_noted, send_noted, metrics_in, total_bytes_in, hand_in_written, hand_in_stored, handed_by, words_handed_by, pool_handed_by, sent_by, words_sent_by, sent_bytes};
+ghost use Rattle.pacing.specs.WriterPacerAlone.{default_key, making_checks, hand_in_checks, send_checks, made_alone, resumed_alone, handed_alone, pool_handed, sent_alone, rated_alone};
 
 use crate::coalescing::{CoalescingQueue, InstanceKey};
 use crate::entries::{Entry, PACER_WORDS};
 use crate::pool::Limits;
 use crate::ring::{Fate, Kept, Ring};
 use crate::token_bucket::{TokenBucket, Tried};
+use crate::token_bucket_alone::rate_out;
 use crate::{coalescing, entries, pool};
+use config::alone::Left;
+use config::answer::Numbered;
 use config::config::{CongestionConfig, Priority};
-use config::ledger::{LATEST, Ledger};
-use config::refusal;
+use config::ledger::{Ledger, check_time};
+use config::refusal::{ACCEPTED, Refusal};
 
 // Where a pacer's counts lie behind its entries; of a class, its number is added.
 const ENQUEUED: u8 = 3;
@@ -30,7 +33,7 @@ const RATE_LIMITED: u8 = 11;
 const FORCE_SENDS_P0: u8 = 12;
 
 // What a pacer reads of the settings.
-#[derive(Clone, Copy)]
+#[derive(Clone, Copy, Debug, PartialEq, Eq)]
 pub struct PacerConfig {
     pub(crate) enabled: bool,
     pub(crate) min_rate_bps: u32,
@@ -38,7 +41,7 @@ pub struct PacerConfig {
     pub(crate) limits: Limits,
 }
 
-#[derive(Clone, Copy)]
+#[derive(Clone, Copy, Debug, PartialEq, Eq)]
 pub struct Queues {
     pub(crate) p0: Ring,
     pub(crate) p1: Ring,
@@ -46,14 +49,14 @@ pub struct Queues {
 }
 
 // What decides a pacer's answers: small, and by value.
-#[derive(Clone, Copy)]
+#[derive(Clone, Copy, Debug, PartialEq, Eq)]
 pub struct PacerCore {
     pub(crate) queues: Queues,
     pub(crate) next_sequence: u64,
     pub(crate) tokens: TokenBucket,
 }
 
-#[derive(Clone, Copy)]
+#[derive(Clone, Copy, Debug, PartialEq, Eq)]
 pub struct Enqueued {
     pub core: PacerCore,
     pub kept: Kept,
@@ -61,7 +64,7 @@ pub struct Enqueued {
 
 // What a send attempt comes to: a record of a class, its slot, sequence and length, and whether it went without tokens;
 // nothing that waits; or the nanoseconds to wait for the first that does.
-#[derive(Clone, Copy)]
+#[derive(Clone, Copy, Debug, PartialEq, Eq)]
 pub enum SendAction {
     Send {
         class: Priority,
@@ -74,32 +77,22 @@ pub enum SendAction {
     RateLimited(u64),
 }
 
-impl SendAction {
-    // Document 01's answer number: a send attempt that is not turned down is accepted, whatever it comes to.
-    pub fn number(self) -> u8
-        ensures { result ≡ action_number self }
-    {
-        match self {
-            SendAction::Send {
-                class: _,
-                slot: _,
-                sequence: _,
-                length: _,
-                forced: _,
-            } => refusal::ACCEPTED,
-            SendAction::Empty => refusal::ACCEPTED,
-            SendAction::RateLimited(_) => refusal::ACCEPTED,
-        }
+// A send attempt that is not turned down is accepted, whatever it comes to.
+impl Numbered for SendAction {
+    ghost number_is = { action_number };
+
+    fn number(&self) -> u8 {
+        ACCEPTED
     }
 }
 
-#[derive(Clone, Copy)]
+#[derive(Clone, Copy, Debug, PartialEq, Eq)]
 pub struct Attempt {
     pub core: PacerCore,
     pub action: SendAction,
 }
 
-#[derive(Clone, Copy)]
+#[derive(Clone, Copy, Debug, PartialEq, Eq)]
 pub struct WriterPacerMetrics {
     pub enqueued_p0: u64,
     pub enqueued_p1: u64,
@@ -124,22 +117,6 @@ impl PacerConfig {
             min_rate_bps: config.min_rate_bps,
             max_rate_bps: config.max_rate_bps,
             limits: Limits::of(config),
-        }
-    }
-
-    // Settings that were turned down: off, and every number 0.
-    pub fn zero() -> PacerConfig
-        ensures { result ≡ zero_pacer.config }
-    {
-        PacerConfig {
-            enabled: false,
-            min_rate_bps: 0,
-            max_rate_bps: 0,
-            limits: Limits {
-                p0: 0,
-                p1: 0,
-                p2: 0,
-            },
         }
     }
 
@@ -173,27 +150,16 @@ impl Queues {
         }
     }
 
-    fn with_ring(mut self, class: Priority, ring: Ring) -> Queues
+    fn with_ring(self, class: Priority, ring: Ring) -> Queues
         ensures { result ≡ with_ring self class ring }
     {
         match class {
-            Priority::P0 => {
-                self.p0 = ring;
-                self
-            }
-            Priority::P1 => {
-                self.p1 = ring;
-                self
-            }
-            Priority::P2 => {
-                let next_sequence = self.p2.next_sequence;
-                let queue = CoalescingQueue {
-                    ring,
-                    next_sequence,
-                };
-                self.p2 = queue;
-                self
-            }
+            Priority::P0 => Queues { p0: ring, ..self },
+            Priority::P1 => Queues { p1: ring, ..self },
+            Priority::P2 => Queues {
+                p2: CoalescingQueue { ring, ..self.p2 },
+                ..self
+            },
         }
     }
 }
@@ -232,15 +198,14 @@ fn try_paid(
 fn burst(rate_bps: u32) -> u64
     ensures { result ≡ burst_of rate_bps }
 {
-    let tenth = rate_bps / 10;
-    if tenth < 1500 { 1500 } else { tenth as u64 }
+    u64::from((rate_bps / 10).max(1500))
 }
 
 // The steps: total, with no numbers. `i` is the pacer's number, which says where its words lie.
 impl PacerCore {
     // A place that no pacer has: every number 0.
     pub fn zero() -> PacerCore
-        ensures { result ≡ zero_pacer.core }
+        ensures { result ≡ no_core }
     {
         PacerCore {
             queues: Queues {
@@ -268,25 +233,27 @@ impl PacerCore {
     }
 
     // A number is used up.
-    fn numbered(mut self) -> PacerCore
+    fn numbered(self) -> PacerCore
         ensures { result ≡ numbered self }
     {
-        let next = numeric::integer::increment(self.next_sequence);
-        self.next_sequence = next;
-        self
+        PacerCore {
+            next_sequence: self.next_sequence.saturating_add(1),
+            ..self
+        }
     }
 
     // A record joins a class's tail.
-    fn place_in(mut self, class: Priority, sequence: u64) -> Enqueued
+    fn place_in(self, class: Priority, sequence: u64) -> Enqueued
         ensures { result ≡ placed_in self class sequence }
     {
-        let queues = self.queues;
-        let ring = queues.ring(class);
-        let placed = ring.place(sequence);
-        let after = placed.ring;
-        let kept = placed.kept;
-        self.queues = queues.with_ring(class, after);
-        Enqueued { core: self, kept }
+        let placed = self.queues.ring(class).place(sequence);
+        Enqueued {
+            core: PacerCore {
+                queues: self.queues.with_ring(class, placed.ring),
+                ..self
+            },
+            kept: placed.kept,
+        }
     }
 
     // P0 never drops: where it is full the record is refused.
@@ -295,17 +262,15 @@ impl PacerCore {
     {
         let ring = self.queues.p0;
         if ring.count < ring.limit {
-            self.place_in(Priority::P0, sequence)
-        } else {
-            let refused = Kept {
+            return self.place_in(Priority::P0, sequence);
+        }
+        Enqueued {
+            core: self,
+            kept: Kept {
                 fate: Fate::Full,
                 slot: 0,
                 sequence,
-            };
-            Enqueued {
-                core: self,
-                kept: refused,
-            }
+            },
         }
     }
 
@@ -317,17 +282,21 @@ impl PacerCore {
     }
 
     // P2 coalesces, under its own sequence numbers.
-    fn enqueue_p2(mut self, words: &[u64], i: u8, key: InstanceKey) -> Enqueued
+    fn enqueue_p2(self, words: &[u64], i: u8, key: InstanceKey) -> Enqueued
         ensures { result ≡ enqueue_p2 self words.now i key }
     {
-        let mut queues = self.queues;
-        let queue = queues.p2;
+        let queue = self.queues.p2;
         let inserted = queue.insert(words, entries::queue_at(i, Priority::P2), key);
-        let after = inserted.queue;
-        let kept = inserted.kept;
-        queues.p2 = after;
-        self.queues = queues;
-        Enqueued { core: self, kept }
+        Enqueued {
+            core: PacerCore {
+                queues: Queues {
+                    p2: inserted.queue,
+                    ..self.queues
+                },
+                ..self
+            },
+            kept: inserted.kept,
+        }
     }
 
     // What a hand-in does to the pacer, and where its record is kept. Every hand-in uses up a number of the pacer's own, P2's too.
@@ -345,7 +314,7 @@ impl PacerCore {
 
     // The first of a class goes; `tokens` is what it leaves of the bucket.
     fn gone(
-        mut self,
+        self,
         words: &[u64],
         i: u8,
         class: Priority,
@@ -354,17 +323,17 @@ impl PacerCore {
     ) -> Attempt
         ensures { result ≡ gone self words.now i class tokens forced }
     {
-        let queues = self.queues;
-        let ring = queues.ring(class);
-        let first = front(queues, words, i, class);
-        let slot = ring.slot_at(0);
-        self.tokens = tokens;
-        self.queues = queues.with_ring(class, ring.pop());
+        let ring = self.queues.ring(class);
+        let first = front(self.queues, words, i, class);
         Attempt {
-            core: self,
+            core: PacerCore {
+                queues: self.queues.with_ring(class, ring.pop()),
+                tokens,
+                ..self
+            },
             action: SendAction::Send {
                 class,
-                slot,
+                slot: ring.slot_at(0),
                 sequence: first.sequence,
                 length: first.length,
                 forced,
@@ -376,34 +345,30 @@ impl PacerCore {
     fn send_p0(self, words: &[u64], i: u8, time: u64) -> Attempt
         ensures { result ≡ attempt_p0 self words.now i time }
     {
-        let first = front(self.queues, words, i, Priority::P0);
-        let length = first.length;
+        let length = front(self.queues, words, i, Priority::P0).length;
         let tried = self.tokens.try_consume(time, length);
-        let bucket = tried.bucket;
         if tried.taken {
-            return self.gone(words, i, Priority::P0, bucket, false);
+            return self.gone(words, i, Priority::P0, tried.bucket, false);
         }
-        let emptied = bucket.force_consume(time, length);
+        let emptied = tried.bucket.force_consume(time, length);
         self.gone(words, i, Priority::P0, emptied, true)
     }
 
     // The wait for `length` tokens.
-    fn waited(mut self, time: u64, length: u64) -> Attempt
+    fn waited(self, time: u64, length: u64) -> Attempt
         ensures { result ≡ waited self time length }
     {
         let told = self.tokens.time_until_available(time, length);
-        let bucket = told.bucket;
-        self.tokens = bucket;
-        if 0 < told.wait {
-            Attempt {
-                core: self,
-                action: SendAction::RateLimited(told.wait),
-            }
-        } else {
-            Attempt {
-                core: self,
-                action: SendAction::Empty,
-            }
+        Attempt {
+            core: PacerCore {
+                tokens: told.bucket,
+                ..self
+            },
+            action: if 0 < told.wait {
+                SendAction::RateLimited(told.wait)
+            } else {
+                SendAction::Empty
+            },
         }
     }
 
@@ -427,43 +392,43 @@ impl PacerCore {
     }
 
     // P0 before P1 before P2; where nothing waits the core goes back as it came.
-    pub fn try_send(mut self, words: &[u64], i: u8, time: u64) -> Attempt
+    pub fn try_send(self, words: &[u64], i: u8, time: u64) -> Attempt
         ensures { result ≡ attempt self words.now i time }
     {
         let queues = self.queues;
         if 0 < queues.p0.count {
             return self.send_p0(words, i, time);
         }
-        if queues.p1.count == 0 {
-            if queues.p2.ring.count == 0 {
-                return Attempt {
-                    core: self,
-                    action: SendAction::Empty,
-                };
-            }
+        if queues.p1.count == 0 && queues.p2.ring.count == 0 {
+            return Attempt {
+                core: self,
+                action: SendAction::Empty,
+            };
         }
         let p1 = try_paid(self.tokens, queues, words, i, Priority::P1, time);
-        let after_p1 = p1.bucket;
         if p1.taken {
-            return self.gone(words, i, Priority::P1, after_p1, false);
+            return self.gone(words, i, Priority::P1, p1.bucket, false);
         }
-        let p2 = try_paid(after_p1, queues, words, i, Priority::P2, time);
-        let after_p2 = p2.bucket;
+        let p2 = try_paid(p1.bucket, queues, words, i, Priority::P2, time);
         if p2.taken {
-            return self.gone(words, i, Priority::P2, after_p2, false);
+            return self.gone(words, i, Priority::P2, p2.bucket, false);
         }
-        self.tokens = after_p2;
-        self.limited(words, i, time)
+        let refilled = PacerCore {
+            tokens: p2.bucket,
+            ..self
+        };
+        refilled.limited(words, i, time)
     }
 
     // The rate is held to the settings' range, and the capacity follows it.
-    pub fn set_rate(mut self, config: PacerConfig, time: u64, rate_bps: u32) -> PacerCore
+    pub fn set_rate(self, config: PacerConfig, time: u64, rate_bps: u32) -> PacerCore
         ensures { result ≡ rate_set self config time rate_bps }
     {
-        let rate = numeric::integer::clamp_u32(rate_bps, config.min_rate_bps, config.max_rate_bps);
-        let bucket = self.tokens.set_rate(time, rate);
-        self.tokens = bucket.set_capacity(burst(rate));
-        self
+        let rate = rate_bps.max(config.min_rate_bps).min(config.max_rate_bps);
+        PacerCore {
+            tokens: self.tokens.set_rate(time, rate).set_capacity(burst(rate)),
+            ..self
+        }
     }
 
     pub fn tokens(self) -> TokenBucket
@@ -488,8 +453,7 @@ impl PacerCore {
     pub fn queue(self, class: Priority) -> Ring
         ensures { result ≡ ring_of self.queues class }
     {
-        let queues = self.queues;
-        queues.ring(class)
+        self.queues.ring(class)
     }
 }
 
@@ -504,22 +468,15 @@ fn count_at(i: u8, k: u8) -> usize
 fn note_hand_in(words: &mut [u64], i: u8, class: Priority, kept: Kept, length: u64)
     ensures { words.new ≡ hand_in_noted words.old i class kept length }
 {
-    let fate = kept.fate;
-    if fate.is_full() {
+    if kept.fate.is_full() {
         return;
     }
-    entries::count(words, count_at(i, ENQUEUED + class.number()), 1);
+    entries::count(words, count_at(i, ENQUEUED + u8::from(class)), 1);
     match class {
-        Priority::P0 => {
-            return;
-        }
-        Priority::P1 => {
-            note_dropped(words, i, fate);
-            return;
-        }
+        Priority::P0 => {}
+        Priority::P1 => note_dropped(words, i, kept.fate),
         Priority::P2 => {
             coalescing::note_insert(words, entries::queue_at(i, Priority::P2), kept, length);
-            return;
         }
     }
 }
@@ -528,20 +485,8 @@ fn note_hand_in(words: &mut [u64], i: u8, class: Priority, kept: Kept, length: u
 fn note_dropped(words: &mut [u64], i: u8, fate: Fate)
     ensures { words.new ≡ drop_noted words.old i fate }
 {
-    match fate {
-        Fate::Full => {
-            return;
-        }
-        Fate::Joined => {
-            return;
-        }
-        Fate::PushedOut => {
-            entries::count(words, count_at(i, DROPPED_P1), 1);
-            return;
-        }
-        Fate::Replaced => {
-            return;
-        }
+    if matches!(fate, Fate::PushedOut) {
+        entries::count(words, count_at(i, DROPPED_P1), 1);
     }
 }
 
@@ -549,19 +494,10 @@ fn note_dropped(words: &mut [u64], i: u8, fate: Fate)
 fn note_sent(words: &mut [u64], i: u8, class: Priority, length: u64)
     ensures { words.new ≡ sent_noted words.old i class length }
 {
-    entries::count(words, count_at(i, SENT + class.number()), 1);
+    entries::count(words, count_at(i, SENT + u8::from(class)), 1);
     entries::count(words, count_at(i, BYTES_SENT), length);
-    match class {
-        Priority::P0 => {
-            return;
-        }
-        Priority::P1 => {
-            return;
-        }
-        Priority::P2 => {
-            coalescing::exchange(words, entries::queue_at(i, Priority::P2), length, 0);
-            return;
-        }
+    if matches!(class, Priority::P2) {
+        coalescing::exchange(words, entries::queue_at(i, Priority::P2), length, 0);
     }
 }
 
@@ -572,25 +508,17 @@ fn note_send(words: &mut [u64], i: u8, action: SendAction)
     match action {
         SendAction::Send {
             class,
-            slot: _,
-            sequence: _,
             length,
             forced,
+            ..
         } => {
             note_sent(words, i, class, length);
             if forced {
                 entries::count(words, count_at(i, FORCE_SENDS_P0), 1);
-                return;
             }
-            return;
         }
-        SendAction::Empty => {
-            return;
-        }
-        SendAction::RateLimited(_) => {
-            entries::count(words, count_at(i, RATE_LIMITED), 1);
-            return;
-        }
+        SendAction::Empty => {}
+        SendAction::RateLimited(_) => entries::count(words, count_at(i, RATE_LIMITED), 1),
     }
 }
 
@@ -643,8 +571,7 @@ fn write(
     ensures pool_after { pool.new ≡ hand_in_stored pool.old limits i class kept sample.now }
 {
     note_hand_in(words, i, class, kept, sample.len() as u64);
-    let fate = kept.fate;
-    if fate.is_full() {
+    if kept.fate.is_full() {
         return;
     }
     let entry = Entry {
@@ -656,25 +583,25 @@ fn write(
     pool::store(pool, limits.slot_start(i, class, kept.slot), sample);
 }
 
-// The parts of a pacer that a call changes by value, with its answer.
-#[derive(Clone, Copy)]
+// The parts of a pacer that a hand-in changes by value, and what it answers.
+#[derive(Clone, Copy, Debug, PartialEq, Eq)]
 pub struct Handed {
     pub ledger: Ledger,
     pub core: PacerCore,
-    pub answer: u8,
+    pub answer: Result<Fate, Refusal>,
 }
 
-#[derive(Clone, Copy)]
+// The same of a send attempt.
+#[derive(Clone, Copy, Debug, PartialEq, Eq)]
 pub struct SendTried {
     pub ledger: Ledger,
     pub core: PacerCore,
-    pub action: SendAction,
-    pub answer: u8,
+    pub answer: Result<SendAction, Refusal>,
 }
 
-// A hand-in on the parts that it touches, once the checks have answered. 12 counts as an accepted call.
+// A hand-in on the parts that it touches, once the checks have answered. One that finds P0 full counts as an accepted call.
 pub fn hand_in(
-    answer: u8,
+    verdict: Result<(), Refusal>,
     ledger: Ledger,
     core: PacerCore,
     limits: Limits,
@@ -686,32 +613,45 @@ pub fn hand_in(
     key: InstanceKey,
     sample: &[u8],
 ) -> Handed
-    ensures value { result ≡ handed_by answer ledger core words.old time i class key }
-    ensures words_after { words.new ≡ words_handed_by answer core words.old i class key (length sample.now) }
-    ensures pool_after { pool.new ≡ pool_handed_by answer core words.old limits i class key sample.now pool.old }
+    ensures value { result ≡ handed_by verdict ledger core words.old time i class key }
+    ensures words_after { words.new ≡ words_handed_by verdict core words.old i class key (length sample.now) }
+    ensures pool_after { pool.new ≡ pool_handed_by verdict core words.old limits i class key sample.now pool.old }
 {
-    if answer != 0 {
-        return Handed {
-            answer,
+    match verdict {
+        Err(refusal) => Handed {
             ledger,
             core,
-        };
-    }
-    let enqueued = core.enqueue(words, i, class, key);
-    let kept = enqueued.kept;
-    let after = enqueued.core;
-    write(limits, words, pool, i, class, kept, key, sample);
-    let fate = kept.fate;
-    Handed {
-        answer: fate.number(),
-        ledger: ledger.moved(time),
-        core: after,
+            answer: Err(refusal),
+        },
+        Ok(()) => {
+            let enqueued = core.enqueue(words, i, class, key);
+            write(limits, words, pool, i, class, enqueued.kept, key, sample);
+            Handed {
+                ledger: ledger.moved(time),
+                core: enqueued.core,
+                answer: Ok(enqueued.kept.fate),
+            }
+        }
     }
 }
 
-// A send attempt on the parts that it touches, once the checks have answered. With control off nothing is tried.
+// A send attempt; with control off nothing is tried.
+fn attempt_if(enabled: bool, core: PacerCore, words: &[u64], i: u8, time: u64) -> Attempt
+    ensures { result ≡ attempt_by enabled core words.now i time }
+{
+    if enabled {
+        core.try_send(words, i, time)
+    } else {
+        Attempt {
+            core,
+            action: SendAction::Empty,
+        }
+    }
+}
+
+// A send attempt on the parts that it touches, once the checks have answered.
 pub fn send(
-    answer: u8,
+    verdict: Result<(), Refusal>,
     enabled: bool,
     ledger: Ledger,
     core: PacerCore,
@@ -719,34 +659,24 @@ pub fn send(
     time: u64,
     i: u8,
 ) -> SendTried
-    ensures value { result ≡ sent_by answer enabled ledger core words.old time i }
-    ensures words_after { words.new ≡ words_sent_by answer enabled core words.old time i }
+    ensures value { result ≡ sent_by verdict enabled ledger core words.old time i }
+    ensures words_after { words.new ≡ words_sent_by verdict enabled core words.old time i }
 {
-    if answer != 0 {
-        return SendTried {
-            answer,
+    match verdict {
+        Err(refusal) => SendTried {
             ledger,
             core,
-            action: SendAction::Empty,
-        };
-    }
-    if enabled {
-        let attempt = core.try_send(words, i, time);
-        let action = attempt.action;
-        let after = attempt.core;
-        note_send(words, i, action);
-        return SendTried {
-            answer: action.number(),
-            ledger: ledger.moved(time),
-            core: after,
-            action,
-        };
-    }
-    SendTried {
-        answer: 0,
-        ledger: ledger.moved(time),
-        core,
-        action: SendAction::Empty,
+            answer: Err(refusal),
+        },
+        Ok(()) => {
+            let attempt = attempt_if(enabled, core, words, i, time);
+            note_send(words, i, attempt.action);
+            SendTried {
+                ledger: ledger.moved(time),
+                core: attempt.core,
+                answer: Ok(attempt.action),
+            }
+        }
     }
 }
 
@@ -758,16 +688,14 @@ pub fn sent_bytes(limits: Limits, i: u8, action: SendAction, pool: &[u8]) -> &[u
         SendAction::Send {
             class,
             slot,
-            sequence: _,
             length,
-            forced: _,
+            ..
         } => pool::shown(pool, limits.slot_start(i, class, slot), length as usize),
-        SendAction::Empty => pool::shown(pool, 0, 0),
-        SendAction::RateLimited(_) => pool::shown(pool, 0, 0),
+        SendAction::Empty | SendAction::RateLimited(_) => pool::shown(pool, 0, 0),
     }
 }
 
-// 3, 7, 8, 17, 11, 13 or 0, for a hand-in of `length` bytes; the pool must have `slots` slots.
+// 3, 7, 8, 17, 11 or 13, for a hand-in of `length` bytes; the pool must have `slots` slots.
 pub fn check_hand_in(
     ledger: Ledger,
     enabled: bool,
@@ -775,55 +703,39 @@ pub fn check_hand_in(
     pool_length: usize,
     time: u64,
     length: usize,
-) -> u8
-    ensures { result ≡ answer_of (hand_in_checks ledger enabled slots pool_length time length) }
+) -> Result<(), Refusal>
+    ensures { result ≡ verdict_of (hand_in_checks ledger enabled slots pool_length time length) }
 {
-    if pool::SLOT < length {
-        return refusal::RECORD_TOO_LONG;
-    }
-    let answer = check_send(ledger, slots, pool_length, time);
-    if answer != 0 {
-        return answer;
-    }
-    if enabled {
-        refusal::ACCEPTED
-    } else {
-        refusal::DISABLED
-    }
+    Refusal::RecordTooLong.when(pool::SLOT < length)?;
+    check_send(ledger, slots, pool_length, time)?;
+    Refusal::Disabled.when(!enabled)
 }
 
-// 7, 8, 17, 11 or 0, for a send attempt.
-pub fn check_send(ledger: Ledger, slots: usize, pool_length: usize, time: u64) -> u8
-    ensures { result ≡ answer_of (send_checks ledger slots pool_length time) }
+// 7, 8, 17 or 11, for a send attempt.
+pub fn check_send(
+    ledger: Ledger,
+    slots: usize,
+    pool_length: usize,
+    time: u64,
+) -> Result<(), Refusal>
+    ensures { result ≡ verdict_of (send_checks ledger slots pool_length time) }
 {
-    if LATEST < time {
-        return refusal::TIME_BEYOND;
-    }
-    if pool::is_short(pool_length, slots) {
-        return refusal::BUFFER_TOO_SHORT;
-    }
+    check_time(time)?;
+    Refusal::BufferTooShort.when(pool::is_short(pool_length, slots))?;
     ledger.check_timed(time)
 }
 
-// 1, 2, 6, 7 or 0, for settings and an initial rate at a time.
-fn check_making(config: CongestionConfig, time: u64, rate_bps: u32) -> u8
-    ensures { result ≡ answer_of (making_checks config time rate_bps) }
+// 1, 2, 6 or 7, for settings and an initial rate at a time.
+fn check_making(config: CongestionConfig, time: u64, rate_bps: u32) -> Result<(), Refusal>
+    ensures { result ≡ verdict_of (making_checks config time rate_bps) }
 {
-    let checked = config.check();
-    if checked.answer != 0 {
-        return checked.answer;
-    }
-    if rate_bps < 1 {
-        return refusal::RATE_BEYOND;
-    }
-    if refusal::LARGEST_RATE < rate_bps {
-        return refusal::RATE_BEYOND;
-    }
-    config::ledger::check_time(time)
+    config.check()?;
+    Refusal::RateBeyond.when(rate_out(rate_bps))?;
+    check_time(time)
 }
 
-// A pacer used alone, with its own call count and last time: the public calls, which turn down by number.
-#[derive(Clone, Copy)]
+// A pacer used alone, with its own call count and last time: the public calls. Its words are those of pacer 0.
+#[derive(Clone, Copy, Debug, PartialEq, Eq)]
 pub struct WriterPacerAlone {
     ledger: Ledger,
     config: PacerConfig,
@@ -831,100 +743,32 @@ pub struct WriterPacerAlone {
     words: [u64; PACER_WORDS],
 }
 
-// The answer number and what a call leaves.
-#[derive(Clone, Copy)]
-pub struct WriterPacerLeft {
-    pub answer: u8,
-    pub alone: WriterPacerAlone,
-}
-
-// The same with what a send attempt came to; `Empty` where it is turned down.
-#[derive(Clone, Copy)]
-pub struct WriterPacerSent {
-    pub answer: u8,
-    pub action: SendAction,
-    pub alone: WriterPacerAlone,
-}
-
-// A hand-in on a pacer alone: its words are those of pacer 0.
-fn hand_in_alone(
-    answer: u8,
-    ledger: Ledger,
-    core: PacerCore,
-    limits: Limits,
-    words: &mut [u64; PACER_WORDS],
-    pool: &mut [u8],
-    time: u64,
-    class: Priority,
-    key: InstanceKey,
-    sample: &[u8],
-) -> Handed
-    ensures value { result ≡ handed_by answer ledger core words.old time 0 class key }
-    ensures words_after { words.new ≡ words_handed_by answer core words.old 0 class key (length sample.now) }
-    ensures pool_after { pool.new ≡ pool_handed_by answer core words.old limits 0 class key sample.now pool.old }
-{
-    hand_in(
-        answer, ledger, core, limits, words, pool, time, 0, class, key, sample,
-    )
-}
-
-// A send attempt on a pacer alone.
-fn send_alone(
-    answer: u8,
-    enabled: bool,
-    ledger: Ledger,
-    core: PacerCore,
-    words: &mut [u64; PACER_WORDS],
-    time: u64,
-) -> SendTried
-    ensures value { result ≡ sent_by answer enabled ledger core words.old time 0 }
-    ensures words_after { words.new ≡ words_sent_by answer enabled core words.old time 0 }
-{
-    send(answer, enabled, ledger, core, words, time, 0)
-}
-
-// What a making that is turned down gives: zeros.
-fn zero() -> WriterPacerAlone
-    ensures { result ≡ zero_pacer }
-{
-    WriterPacerAlone {
-        ledger: Ledger::new(0),
-        config: PacerConfig::zero(),
-        core: PacerCore::zero(),
-        words: [0; PACER_WORDS],
-    }
-}
-
 impl WriterPacerAlone {
     // A pacer with empty queues and a full bucket; its first rate is 1 to 1,000,000,000.
-    pub fn with_rate(time: u64, config: CongestionConfig, initial_rate_bps: u32) -> WriterPacerLeft
+    pub fn with_rate(
+        time: u64,
+        config: CongestionConfig,
+        initial_rate_bps: u32,
+    ) -> Result<WriterPacerAlone, Refusal>
         ensures { result ≡ made_alone time config initial_rate_bps }
     {
-        let answer = check_making(config, time, initial_rate_bps);
-        if answer != 0 {
-            return WriterPacerLeft {
-                answer,
-                alone: zero(),
-            };
-        }
-        WriterPacerLeft {
-            answer: 0,
-            alone: WriterPacerAlone {
-                ledger: Ledger::new(time),
-                config: PacerConfig::of(config),
-                core: PacerCore::with_rate(time, Limits::of(config), initial_rate_bps),
-                words: [0; PACER_WORDS],
-            },
-        }
+        check_making(config, time, initial_rate_bps)?;
+        Ok(WriterPacerAlone {
+            ledger: Ledger::new(time),
+            config: PacerConfig::of(config),
+            core: PacerCore::with_rate(time, Limits::of(config), initial_rate_bps),
+            words: [0; PACER_WORDS],
+        })
     }
 
     // The same pacer with a call count that was kept elsewhere, as over a restart.
-    pub fn resumed(mut self, calls: u64) -> WriterPacerAlone
+    pub fn resumed(self, calls: u64) -> WriterPacerAlone
         ensures { result ≡ resumed_alone self calls }
     {
-        let ledger = self.ledger.resumed(calls);
-        self.ledger = ledger;
-        self
+        WriterPacerAlone {
+            ledger: self.ledger.resumed(calls),
+            ..self
+        }
     }
 
     // A record of a class; P2's go under the key of the topic "default".
@@ -934,7 +778,7 @@ impl WriterPacerAlone {
         pool: &mut [u8],
         class: Priority,
         sample: &[u8],
-    ) -> WriterPacerLeft
+    ) -> Left<WriterPacerAlone, Fate>
         ensures value { result ≡ handed_alone self (length pool.old) time class default_key (length sample.now) }
         ensures pool_after { pool.new ≡ pool_handed self pool.old time class default_key sample.now }
     {
@@ -948,7 +792,7 @@ impl WriterPacerAlone {
         pool: &mut [u8],
         key: InstanceKey,
         sample: &[u8],
-    ) -> WriterPacerLeft
+    ) -> Left<WriterPacerAlone, Fate>
         ensures value { result ≡ handed_alone self (length pool.old) time P2 key (length sample.now) }
         ensures pool_after { pool.new ≡ pool_handed self pool.old time P2 key sample.now }
     {
@@ -963,88 +807,96 @@ impl WriterPacerAlone {
         class: Priority,
         key: InstanceKey,
         sample: &[u8],
-    ) -> WriterPacerLeft
+    ) -> Left<WriterPacerAlone, Fate>
         ensures value { result ≡ handed_alone self (length pool.old) time class key (length sample.now) }
         ensures pool_after { pool.new ≡ pool_handed self pool.old time class key sample.now }
     {
-        let config = self.config;
-        let limits = config.limits;
-        let answer = check_hand_in(
+        let answer = self.hand_in(time, pool, class, key, sample);
+        Left {
+            state: self,
+            answer,
+        }
+    }
+
+    // The same in place: turned down it is left as it was.
+    fn hand_in(
+        &mut self,
+        time: u64,
+        pool: &mut [u8],
+        class: Priority,
+        key: InstanceKey,
+        sample: &[u8],
+    ) -> Result<Fate, Refusal>
+        ensures value { handed_alone self.old (length pool.old) time class key (length sample.now) ≡ record { state = self.new; answer = result } }
+        ensures pool_after { pool.new ≡ pool_handed self.old pool.old time class key sample.now }
+    {
+        let limits = self.config.limits;
+        check_hand_in(
             self.ledger,
-            config.enabled,
+            self.config.enabled,
             limits.slots(),
             pool.len(),
             time,
             sample.len(),
-        );
-        let handed = hand_in_alone(
-            answer,
-            self.ledger,
-            self.core,
+        )?;
+        let enqueued = self.core.enqueue(&self.words, 0, class, key);
+        write(
             limits,
             &mut self.words,
             pool,
-            time,
+            0,
             class,
+            enqueued.kept,
             key,
             sample,
         );
-        let ledger = handed.ledger;
-        let core = handed.core;
-        self.ledger = ledger;
-        self.core = core;
-        WriterPacerLeft {
-            answer: handed.answer,
-            alone: self,
-        }
+        self.ledger = self.ledger.moved(time);
+        self.core = enqueued.core;
+        Ok(enqueued.kept.fate)
     }
 
     // What is to be sent next; `sent_bytes` shows the bytes of a sent record.
-    pub fn try_send(mut self, time: u64, pool: &[u8]) -> WriterPacerSent
+    pub fn try_send(mut self, time: u64, pool: &[u8]) -> Left<WriterPacerAlone, SendAction>
         ensures { result ≡ sent_alone self (length pool.now) time }
     {
-        let config = self.config;
-        let limits = config.limits;
-        let answer = check_send(self.ledger, limits.slots(), pool.len(), time);
-        let tried = send_alone(
+        let answer = self.send(time, pool);
+        Left {
+            state: self,
             answer,
-            config.enabled,
-            self.ledger,
-            self.core,
-            &mut self.words,
-            time,
-        );
-        let ledger = tried.ledger;
-        let core = tried.core;
-        let action = tried.action;
-        self.ledger = ledger;
-        self.core = core;
-        WriterPacerSent {
-            answer: tried.answer,
-            action,
-            alone: self,
         }
     }
 
+    // The same in place: turned down it is left as it was.
+    fn send(&mut self, time: u64, pool: &[u8]) -> Result<SendAction, Refusal>
+        ensures { sent_alone self.old (length pool.now) time ≡ record { state = self.new; answer = result } }
+    {
+        check_send(self.ledger, self.config.limits.slots(), pool.len(), time)?;
+        let attempt = attempt_if(self.config.enabled, self.core, &self.words, 0, time);
+        note_send(&mut self.words, 0, attempt.action);
+        self.ledger = self.ledger.moved(time);
+        self.core = attempt.core;
+        Ok(attempt.action)
+    }
+
     // The rate is held to the settings' range; works with control off too.
-    pub fn set_rate(mut self, time: u64, rate_bps: u32) -> WriterPacerLeft
+    pub fn set_rate(mut self, time: u64, rate_bps: u32) -> Left<WriterPacerAlone, ()>
         ensures { result ≡ rated_alone self time rate_bps }
     {
-        let answer = self.ledger.check_rate(time, rate_bps);
-        if answer != 0 {
-            return WriterPacerLeft {
-                answer,
-                alone: self,
-            };
+        let answer = self.change_rate(time, rate_bps);
+        Left {
+            state: self,
+            answer,
         }
-        let ledger = self.ledger.moved(time);
-        let core = self.core.set_rate(self.config, time, rate_bps);
-        self.ledger = ledger;
-        self.core = core;
-        WriterPacerLeft {
-            answer: 0,
-            alone: self,
-        }
+    }
+
+    // The same in place: turned down it is left as it was.
+    fn change_rate(&mut self, time: u64, rate_bps: u32) -> Result<(), Refusal>
+        ensures { rated_alone self.old time rate_bps ≡ record { state = self.new; answer = result } }
+    {
+        self.ledger.check_rate(time, rate_bps)?;
+        self.ledger = self.ledger.moved(time);
+        self.core = self.core.set_rate(self.config, time, rate_bps);
+        Ok(())
     }
 
     pub fn ledger(self) -> Ledger
