@@ -1,7 +1,7 @@
 // A token bucket used alone: the public calls on it, under a call count and a last time of its own.
 ghost use Rattle.std.specs.Prelude.{◌≡◌};
 ghost use Rattle.config.specs.Refusal.{verdict_of};
-ghost use Rattle.pacing.specs.TokenBucketAlone.{rate_out, making_checks, byte_checks, rate_checks, capacity_checks, made_alone, refilled_alone, tried_alone, forced_alone, rated_alone, resized_alone, told_alone};
+ghost use Rattle.pacing.specs.TokenBucketAlone.{rate_out, is_beyond, making_checks, byte_checks, rate_checks, capacity_checks, made_alone, refilled_alone, tried_alone, forced_alone, rated_alone, resized_alone, told_alone};
 
 use crate::token_bucket::TokenBucket;
 use config::alone::{Alone, Left};
