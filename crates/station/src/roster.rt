@@ -26,11 +26,7 @@ pub struct Roster {
 fn taken(count: u8) -> usize
     ensures { result ≡ min count 4 }
 {
-    if count < 4 {
-        count as usize
-    } else {
-        MOST_WRITERS
-    }
+    MOST_WRITERS.min(count as usize)
 }
 
 impl Writer {
@@ -41,7 +37,6 @@ impl Writer {
         let budget = table.budget_of(self.id);
         if budget.known {
             self.pacer = self.pacer.set_rate(config, time, budget.bps);
-            return self;
         }
         self
     }
@@ -61,29 +56,12 @@ impl Roster {
         }
     }
 
-    // The first place with the id, or the number of places taken.
-    fn place_of(self, id: u64) -> usize
-        ensures { result ≡ place_in self id }
-    {
-        let n = taken(self.count);
-        let mut k: usize = 0;
-        let place = loop {
-            if n <= k {
-                break n;
-            }
-            if self.writers[k].id == id {
-                break k;
-            }
-            k += 1;
-        };
-        place
-    }
-
     // Whether a writer has the id.
     pub(crate) fn is_here(self, id: u64) -> bool
         ensures { result ≡ is_here self id }
     {
-        self.place_of(id) < taken(self.count)
+        let writers = &self.writers[..taken(self.count)];
+        writers.iter().any(|writer| writer.id == id)
     }
 
     // The next place is the newcomer's; a full roster stays.
@@ -91,10 +69,8 @@ impl Roster {
         ensures { result ≡ cond (ltb self.count 4) (joined self (writer_of id pacer)) self }
     {
         if self.count < 4 {
-            let writer = Writer { id, pacer };
-            self.writers[self.count as usize] = writer;
+            self.writers[self.count as usize] = Writer { id, pacer };
             self.count += 1;
-            return self;
         }
         self
     }
@@ -103,21 +79,17 @@ impl Roster {
     pub fn pacer(self, i: u8) -> PacerCore
         ensures { result ≡ (writer_at self i).pacer }
     {
-        if i < 4 {
-            let writer = self.writers[i as usize];
-            return writer.pacer;
+        match self.writers.get(i as usize) {
+            Some(writer) => writer.pacer,
+            None => PacerCore::zero(),
         }
-        PacerCore::zero()
     }
 
     // The id of the writer with a number, 0 where there is no such place.
     pub fn id(self, i: u8) -> u64
         ensures { result ≡ (writer_at self i).id }
     {
-        if i < 4 {
-            return self.writers[i as usize].id;
-        }
-        0
+        self.writers.get(i as usize).map_or(0, |writer| writer.id)
     }
 
     // Another pacer in a place.
@@ -125,10 +97,7 @@ impl Roster {
         ensures { result ≡ with_pacer self i pacer }
     {
         if i < 4 {
-            let mut writer = self.writers[i as usize];
-            writer.pacer = pacer;
-            self.writers[i as usize] = writer;
-            return self;
+            self.writers[i as usize].pacer = pacer;
         }
         self
     }
@@ -138,11 +107,8 @@ impl Roster {
         ensures { result ≡ budgeted_all config time table self }
     {
         let n = taken(self.count);
-        let mut k: usize = 0;
-        while k < n {
-            let writer = self.writers[k];
-            self.writers[k] = writer.budget(config, time, table);
-            k += 1;
+        for writer in self.writers[..n].iter_mut() {
+            *writer = writer.budget(config, time, table);
         }
         self
     }
