@@ -13,8 +13,7 @@ use Rattle.config.specs.declared.refusal.Refusal.{Refusal}
 use Rattle.config.specs.declared.refusal.Refusal.TheVariants.{WriterUnknown, WriterKnown, TableFull}
 use Rattle.numeric.specs.Search.{first}
 use Rattle.pacing.specs.Pool.{slots_of}
-use Rattle.pacing.specs.WriterPacer.{pacer_config_of, made, rate_set, enqueue, attempt_by, send_noted, hand_in_written, hand_in_stored, sent_bytes}
-use Rattle.pacing.specs.WriterPacerAlone.{zero_pacer}
+use Rattle.pacing.specs.WriterPacer.{pacer_config_of, no_core, made, rate_set, enqueue, attempt_by, send_noted, hand_in_written, hand_in_stored, sent_bytes}
 use Rattle.pacing.specs.WriterPacerAlone as alone
 use Rattle.pacing.specs.declared.coalescing.InstanceKey.{InstanceKey}
 use Rattle.pacing.specs.declared.pool.Limits.{Limits}
@@ -47,7 +46,7 @@ writer_of id p = record { id = id; pacer = p }
 
 -- a place that no writer has, and what the language's reading gives beyond the array
 abbrev pub no_writer : Writer
-no_writer = writer_of 0 zero_pacer.core
+no_writer = writer_of 0 no_core
 
 abbrev pub roster_of : List Writer → ℕ → Roster
 roster_of ws count = record { writers = ws; count = count }
