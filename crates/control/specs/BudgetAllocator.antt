@@ -1,5 +1,5 @@
--- Shares of the rate (document 01, budget_allocator.rs): "Shares as in `reallocate`, updates by class and then by id". Definitions only.
-use Rattle.std.specs.Prelude.{ℕ, zero, suc, ◌+◌, ◌-◌, min, max, Bool, true, false, cond, List, [], ◌∷◌, ◌++◌, map, ltb, leb, eqb, Float, get_or, replicate, take, drop}
+-- Shares of the rate: "Shares as in `reallocate`, updates by class and then by id". Definitions only.
+use Rattle.std.specs.Prelude.{ℕ, zero, suc, ◌+◌, ◌-◌, min, max, Bool, true, false, cond, Option, Some, None, List, [], ◌∷◌, ◌++◌, map, ltb, leb, eqb, Float, get_or, replicate, take, drop}
 use Rattle.std.specs.Float.{nan, binary32}
 use Rattle.std.specs.Float.Ieee.{of_bits, add, div}
 use Rattle.config.specs.Config.{class_number}
@@ -11,7 +11,6 @@ use Rattle.numeric.specs.Integer.{up_to_u64, next}
 use Rattle.numeric.specs.Search.{first}
 use Rattle.control.specs.declared.budget_allocator.AllocationConfig.{AllocationConfig}
 use Rattle.control.specs.declared.budget_allocator.AllocationStats.{AllocationStats}
-use Rattle.control.specs.declared.budget_allocator.Budget.{Budget}
 use Rattle.control.specs.declared.budget_allocator.BudgetAllocator.{BudgetAllocator}
 use Rattle.control.specs.declared.budget_allocator.ClassBudgets.{ClassBudgets}
 use Rattle.control.specs.declared.budget_allocator.ClassWeights.{ClassWeights}
@@ -23,10 +22,6 @@ use Rattle.control.specs.declared.budget_allocator.WriterTable.{WriterTable}
 -- what the settings guarantee P0
 abbrev pub allocation_config_of : CongestionConfig → AllocationConfig
 allocation_config_of c = record { p0_min_share = c.p0_min_share; p0_min_bps = c.p0_min_bps }
-
--- settings that were turned down
-abbrev pub no_allocation_config : AllocationConfig
-no_allocation_config = record { p0_min_share = zero32; p0_min_bps = 0 }
 
 -- ---- the table: writers by class and then by id, from row 0
 
@@ -105,12 +100,8 @@ without t id =
     (table_of (without_row t (place_of t id)).rows (taken_of t.count - 1)) t
 
 -- the budget in a writer's row
-abbrev pub known_budget : ℕ → Budget
-known_budget bps = record { known = true; bps = bps }
-
-unfoldable pub budget_of : WriterTable → ℕ → Budget
-budget_of t id =
-    cond (is_known t id) (known_budget (row_at t.rows (place_of t id)).budget_bps) (record { known = false; bps = 0 })
+unfoldable pub budget_of : WriterTable → ℕ → Option ℕ
+budget_of t id = cond (is_known t id) (Some (row_at t.rows (place_of t id)).budget_bps) None
 
 -- not there, and 64 are
 unfoldable pub full_for : WriterTable → ℕ → Bool

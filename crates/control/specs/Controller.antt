@@ -1,4 +1,4 @@
--- The congestion controller (document 01, controller.rs). Definitions only.
+-- The congestion controller: the core, the peers and the writers. Definitions only.
 use Rattle.std.specs.Prelude.{ℕ, ◌+◌, ◌-◌, Bool, true, false, cond, ltb, leb, Float}
 use Rattle.std.specs.Float.{binary32}
 use Rattle.std.specs.Float.Ieee.{of_bits}

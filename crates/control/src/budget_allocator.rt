@@ -1,14 +1,16 @@
 // Shares of the rate: a table of up to 64 writers by class and then by id, and what each gets of a rate.
-ghost use Rattle.std.specs.Prelude.{◌≡◌};
-ghost use Rattle.config.specs.Refusal.{answer_of};
-ghost use Rattle.control.specs.BudgetAllocator.{allocation_config_of, no_allocation_config, blank_writer, new_writer, comes_before, taken_of, place_of, place_for, with_row, without_row, new_table, writers_of, entered, is_known, budget_of, without, full_for, writer_at, no_weights, weighed, weights_from, weight_in, budget_in, share_of, reserve_of, split_of, urgent_part, left_from, shares_of, budget_for, with_budget, allotted_table, distributed_from, new_allocator, one, registered, unregistered, reallocated};
-ghost use Rattle.control.specs.BudgetAllocatorAlone.{weight_out, register_checks, weight_checks, allot_checks, zero_alone, made_alone, resumed_alone, left_by, registered_alone, weighted_alone, unregistered_alone, reallocated_alone};
+#![tactic(auto, unfolding(config::specs::Refusal::verdict_of, crate::specs::BudgetAllocator::comes_before, crate::specs::BudgetAllocator::place_of, crate::specs::BudgetAllocator::place_for, crate::specs::BudgetAllocator::with_row, crate::specs::BudgetAllocator::without_row, crate::specs::BudgetAllocator::entered, crate::specs::BudgetAllocator::is_known, crate::specs::BudgetAllocator::without, crate::specs::BudgetAllocator::budget_of, crate::specs::BudgetAllocator::full_for, crate::specs::BudgetAllocator::weighed, crate::specs::BudgetAllocator::share_of, crate::specs::BudgetAllocator::reserve_of, crate::specs::BudgetAllocator::split_of, crate::specs::BudgetAllocator::urgent_part, crate::specs::BudgetAllocator::shares_of, crate::specs::BudgetAllocator::budget_for, crate::specs::BudgetAllocator::with_budget, crate::specs::BudgetAllocator::allotted_table, crate::specs::BudgetAllocator::registered, crate::specs::BudgetAllocator::unregistered, crate::specs::BudgetAllocator::reallocated, crate::specs::BudgetAllocator::weights_from, crate::specs::BudgetAllocator::left_from, crate::specs::BudgetAllocator::distributed_from, crate::specs::BudgetAllocatorAlone::weight_out, crate::specs::BudgetAllocatorAlone::made_alone, crate::specs::BudgetAllocatorAlone::registered_alone, crate::specs::BudgetAllocatorAlone::weighted_alone, crate::specs::BudgetAllocatorAlone::unregistered_alone, crate::specs::BudgetAllocatorAlone::reallocated_alone))]
 
+ghost use Rattle.std.specs.Prelude.{◌≡◌, ◌≤◌, ◌<◌};
+ghost use Rattle.config.specs.Refusal.{verdict_of};
+ghost use Rattle.control.specs.BudgetAllocator.{allocation_config_of, blank_writer, new_writer, comes_before, taken_of, place_of, place_for, with_row, without_row, new_table, writers_of, entered, is_known, budget_of, without, full_for, writer_at, no_weights, weighed, weights_from, weight_in, budget_in, share_of, reserve_of, split_of, urgent_part, left_from, shares_of, budget_for, with_budget, allotted_table, distributed_from, new_allocator, one, registered, unregistered, reallocated};
+ghost use Rattle.control.specs.BudgetAllocatorAlone.{weight_out, register_checks, weight_checks, allot_checks, made_alone, resumed_alone, left_by, registered_alone, weighted_alone, unregistered_alone, reallocated_alone};
+
+use config::alone::Left;
 use config::config::{CongestionConfig, Priority};
 use config::ledger::Ledger;
-use config::refusal;
+use config::refusal::{LARGEST_RATE, Refusal};
 use numeric::float::{is_finite_f32, max_f32, scaled_u32};
-use numeric::integer::{increment, max_u32, saturating_add, saturating_sub_u32};
 
 // Writers that the table holds.
 const MOST_WRITERS: usize = 64;
@@ -17,7 +19,7 @@ const MOST_WRITERS: usize = 64;
 const MIN_PER_WRITER: u32 = 1000;
 
 // What the settings guarantee P0: a share of the rate, and bytes per second.
-#[derive(Clone, Copy)]
+#[derive(Clone, Copy, Debug, PartialEq)]
 pub struct AllocationConfig {
     pub p0_min_share: f32,
     pub p0_min_bps: u32,
@@ -32,19 +34,10 @@ impl AllocationConfig {
             p0_min_bps: config.p0_min_bps,
         }
     }
-
-    pub(crate) fn zero() -> AllocationConfig
-        ensures { result ≡ no_allocation_config }
-    {
-        AllocationConfig {
-            p0_min_share: 0.0,
-            p0_min_bps: 0,
-        }
-    }
 }
 
 // A writer: its class, its weight within the class, its budget, and the one before that.
-#[derive(Clone, Copy)]
+#[derive(Clone, Copy, Debug, PartialEq)]
 pub struct WriterInfo {
     pub id: u64,
     pub priority: Priority,
@@ -81,17 +74,39 @@ impl WriterInfo {
     }
 
     // By class, then by id.
-    fn comes_before(self, other: WriterInfo) -> bool
-        ensures { result ≡ comes_before self other }
+    fn comes_before(&self, other: &WriterInfo) -> bool
+        ensures { result ≡ comes_before self.now other.now }
     {
-        let mine = self.priority;
-        let others = other.priority;
-        let class = mine.number();
-        let class_of_other = others.number();
-        if class == class_of_other {
-            return self.id < other.id;
+        (self.priority, self.id) < (other.priority, other.id)
+    }
+
+    // What a P0 writer takes of the rate before the other classes.
+    fn urgent_part(&self, reserve: u32, total: f32) -> u32
+        ensures { result ≡ urgent_part reserve total self.now }
+    {
+        match self.priority {
+            Priority::P0 => share(reserve, self.weight, total),
+            Priority::P1 | Priority::P2 => 0,
         }
-        class < class_of_other
+    }
+
+    // A writer's part of what its class has.
+    fn budget_for(&self, shares: Shares) -> u32
+        ensures { result ≡ budget_for shares self.now }
+    {
+        let total = shares.weights.of(self.priority);
+        share(shares.budgets.of(self.priority), self.weight, total)
+    }
+
+    // The new budget; the old one is kept beside it.
+    fn with_budget(&self, shares: Shares) -> WriterInfo
+        ensures { result ≡ with_budget shares self.now }
+    {
+        WriterInfo {
+            budget_bps: self.budget_for(shares),
+            previous_bps: self.budget_bps,
+            ..*self
+        }
     }
 }
 
@@ -99,15 +114,11 @@ impl WriterInfo {
 fn taken(count: u16) -> usize
     ensures { result ≡ taken_of count }
 {
-    if (count as usize) < MOST_WRITERS {
-        count as usize
-    } else {
-        MOST_WRITERS
-    }
+    usize::from(count).min(MOST_WRITERS)
 }
 
 // Writers by class and then by id, from row 0.
-#[derive(Clone, Copy)]
+#[derive(Clone, Copy, Debug, PartialEq)]
 pub struct WriterTable {
     pub(crate) rows: [WriterInfo; 64],
     pub(crate) count: u16,
@@ -117,124 +128,97 @@ impl WriterTable {
     pub(crate) fn new() -> WriterTable
         ensures { result ≡ new_table }
     {
-        let blank = WriterInfo::blank();
         WriterTable {
-            rows: [blank; 64],
+            rows: [WriterInfo::blank(); 64],
             count: 0,
         }
     }
 
-    // The row of a writer, or the number of rows taken where it is not there.
-    fn place_of(self, id: u64) -> usize
-        ensures { result ≡ place_of self id }
+    // The rows that are taken.
+    fn writers(&self) -> &[WriterInfo]
+        ensures { result.now ≡ writers_of self.now }
     {
-        let n = taken(self.count);
-        let mut k: usize = 0;
-        let place = loop {
-            if n <= k {
-                break n;
-            }
-            let row = self.rows[k];
-            if row.id == id {
-                break k;
-            }
-            k += 1;
-        };
-        place
+        &self.rows[..taken(self.count)]
+    }
+
+    // The row of a writer, or the number of rows taken where it is not there.
+    fn place_of(&self, id: u64) -> usize
+        ensures { result ≡ place_of self.now id }
+    {
+        let writers = self.writers();
+        writers
+            .iter()
+            .position(|row| row.id == id)
+            .unwrap_or(writers.len())
     }
 
     // The row for a new writer: before the first that comes after it.
-    fn place_for(self, writer: WriterInfo) -> usize
-        ensures { result ≡ place_for self writer }
+    fn place_for(&self, writer: WriterInfo) -> usize
+        ensures { result ≡ place_for self.now writer }
     {
-        let n = taken(self.count);
-        let mut k: usize = 0;
-        let place = loop {
-            if n <= k {
-                break n;
-            }
-            let row = self.rows[k];
+        for (place, row) in self.writers().iter().enumerate() {
             if writer.comes_before(row) {
-                break k;
+                return place;
             }
-            k += 1;
-        };
-        place
+        }
+        taken(self.count)
     }
 
     // A writer takes a row; that row and those after it move on by one, up to the first free one.
-    fn put_row(mut self, place: usize, writer: WriterInfo) -> WriterTable
-        ensures { result ≡ with_row self place writer }
+    fn put_row(&mut self, place: usize, writer: WriterInfo)
+        requires within { place ≤ taken_of self.old.count }
+        requires room { taken_of self.old.count < 64 }
+        ensures { self.new ≡ with_row self.old place writer }
     {
-        let moved = taken(taken(self.count) as u16 + 1);
-        let mut carried = writer;
-        let mut k = place;
-        while k < moved {
-            let next = self.rows[k];
-            self.rows[k] = carried;
-            carried = next;
-            k += 1;
-        }
-        self
+        let n = taken(self.count);
+        self.rows.copy_within(place..n, place + 1);
+        self.rows[place] = writer;
     }
 
     // A row is given up; those after it move up by one, and a blank row comes last.
-    fn drop_row(mut self, place: usize) -> WriterTable
-        ensures { result ≡ without_row self place }
+    fn drop_row(&mut self, place: usize)
+        requires { place < 64 }
+        ensures { self.new ≡ without_row self.old place }
     {
-        let mut carried = WriterInfo::blank();
-        let mut k: usize = MOST_WRITERS;
-        while place < k {
-            k -= 1;
-            let next = self.rows[k];
-            self.rows[k] = carried;
-            carried = next;
-        }
-        self
+        self.rows.copy_within(place + 1.., place);
+        self.rows[MOST_WRITERS - 1] = WriterInfo::blank();
     }
 
     // A new writer takes its row; a full table takes none.
-    fn enter(self, writer: WriterInfo) -> WriterTable
-        ensures { result ≡ entered self writer }
+    fn enter(&mut self, writer: WriterInfo)
+        ensures { self.new ≡ entered self.old writer }
     {
         let n = taken(self.count);
         if n < MOST_WRITERS {
             let place = self.place_for(writer);
-            let mut t = self.put_row(place, writer);
-            t.count = n as u16 + 1;
-            return t;
+            self.put_row(place, writer);
+            self.count = n as u16 + 1;
         }
-        self
     }
 
-    fn is_known(self, id: u64) -> bool
-        ensures { result ≡ is_known self id }
+    fn is_known(&self, id: u64) -> bool
+        ensures { result ≡ is_known self.now id }
     {
         self.place_of(id) < taken(self.count)
     }
 
     // A writer that is there goes.
-    fn without(self, id: u64) -> WriterTable
-        ensures { result ≡ without self id }
+    fn remove(&mut self, id: u64)
+        ensures { self.new ≡ without self.old id }
     {
         let n = taken(self.count);
         let place = self.place_of(id);
         if place < n {
-            let mut t = self.drop_row(place);
-            t.count = n as u16 - 1;
-            return t;
+            self.drop_row(place);
+            self.count = n as u16 - 1;
         }
-        self
     }
 
     // Whether a writer is not there and there is no room for it.
-    fn is_full_for(self, id: u64) -> bool
-        ensures { result ≡ full_for self id }
+    fn is_full_for(&self, id: u64) -> bool
+        ensures { result ≡ full_for self.now id }
     {
-        if self.is_known(id) {
-            return false;
-        }
-        taken(self.count) >= MOST_WRITERS
+        !self.is_known(id) && taken(self.count) >= MOST_WRITERS
     }
 
     pub fn count(self) -> u16
@@ -250,26 +234,14 @@ impl WriterTable {
         self.rows
     }
 
-    // The budget of a writer, where it is there. It searches for itself, since `place_of` would copy the table once more.
-    pub fn budget_of(self, id: u64) -> Budget
+    // The budget of a writer in bytes per second, where it is there.
+    pub fn budget_of(self, id: u64) -> Option<u32>
         ensures { result ≡ budget_of self id }
     {
-        let n = taken(self.count);
-        let mut k: usize = 0;
-        while k < n {
-            let row = self.rows[k];
-            if row.id == id {
-                return Budget {
-                    known: true,
-                    bps: row.budget_bps,
-                };
-            }
-            k += 1;
-        }
-        Budget {
-            known: false,
-            bps: 0,
-        }
+        self.writers()
+            .iter()
+            .find(|row| row.id == id)
+            .map(|row| row.budget_bps)
     }
 
     // The writer in a row, blank where none stands.
@@ -282,58 +254,75 @@ impl WriterTable {
             WriterInfo::blank()
         }
     }
-}
 
-// What a writer may send in bytes per second, and whether there is such a writer.
-#[derive(Clone, Copy)]
-pub struct Budget {
-    pub known: bool,
-    pub bps: u32,
+    // The weights, summed by class and then by id.
+    fn weights(&self) -> ClassWeights
+        ensures { result ≡ weights_from no_weights (writers_of self.now) }
+    {
+        let mut sums = ClassWeights::none();
+        for row in self.writers() {
+            sums = sums.plus(row);
+        }
+        sums
+    }
+
+    // What P0's writers leave of a rate.
+    fn left(&self, rate_bps: u32, reserve: u32, total: f32) -> u32
+        ensures { result ≡ left_from reserve total rate_bps (writers_of self.now) }
+    {
+        let mut left = rate_bps;
+        for row in self.writers() {
+            left = left.saturating_sub(row.urgent_part(reserve, total));
+        }
+        left
+    }
+
+    // What each class has to share out of a rate, and its weights.
+    fn shares(&self, config: AllocationConfig, rate_bps: u32) -> Shares
+        ensures { result ≡ shares_of config rate_bps (writers_of self.now) }
+    {
+        let weights = self.weights();
+        let p0 = reserve(config, rate_bps);
+        let left = self.left(rate_bps, p0, weights.p0);
+        let p1 = split(left);
+        Shares {
+            weights,
+            budgets: ClassBudgets {
+                p0,
+                p1,
+                p2: left.saturating_sub(p1),
+            },
+        }
+    }
+
+    // Every writer gets its budget.
+    fn allot(&mut self, shares: Shares)
+        ensures { self.new ≡ allotted_table self.old shares }
+    {
+        let n = taken(self.count);
+        for row in &mut self.rows[..n] {
+            *row = row.with_budget(shares);
+        }
+    }
+
+    // A sum with every writer's budget.
+    fn distributed(&self, sum: u64) -> u64
+        ensures { result ≡ distributed_from sum (writers_of self.now) }
+    {
+        let mut total = sum;
+        for row in self.writers() {
+            total = total.saturating_add(u64::from(row.budget_bps));
+        }
+        total
+    }
 }
 
 // The weights of each class's writers together.
-#[derive(Clone, Copy)]
+#[derive(Clone, Copy, Debug, PartialEq)]
 pub struct ClassWeights {
     pub p0: f32,
     pub p1: f32,
     pub p2: f32,
-}
-
-// What each class has to share out, in bytes per second.
-#[derive(Clone, Copy)]
-pub struct ClassBudgets {
-    pub p0: u32,
-    pub p1: u32,
-    pub p2: u32,
-}
-
-#[derive(Clone, Copy)]
-pub struct Shares {
-    pub weights: ClassWeights,
-    pub budgets: ClassBudgets,
-}
-
-// A weight's part of a budget, at least the least of a writer.
-fn share(budget: u32, weight: f32, total: f32) -> u32
-    ensures { result ≡ share_of budget weight total }
-{
-    let part = scaled_u32(budget, weight / total);
-    max_u32(part, MIN_PER_WRITER)
-}
-
-// What P0 has to share out: its share of the rate, or more where it is guaranteed more.
-fn reserve(config: AllocationConfig, rate_bps: u32) -> u32
-    ensures { result ≡ reserve_of config rate_bps }
-{
-    let part = scaled_u32(rate_bps, config.p0_min_share);
-    max_u32(part, config.p0_min_bps)
-}
-
-// P1's part of what P0's writers leave; the rest is P2's.
-fn split(left: u32) -> u32
-    ensures { result ≡ split_of left }
-{
-    scaled_u32(left, 0.7)
 }
 
 impl ClassWeights {
@@ -348,11 +337,10 @@ impl ClassWeights {
     }
 
     // One writer more.
-    fn plus(self, writer: WriterInfo) -> ClassWeights
-        ensures { result ≡ weighed self writer }
+    fn plus(self, writer: &WriterInfo) -> ClassWeights
+        ensures { result ≡ weighed self writer.now }
     {
-        let class = writer.priority;
-        match class {
+        match writer.priority {
             Priority::P0 => ClassWeights {
                 p0: self.p0 + writer.weight,
                 ..self
@@ -379,6 +367,14 @@ impl ClassWeights {
     }
 }
 
+// What each class has to share out, in bytes per second.
+#[derive(Clone, Copy, Debug, PartialEq, Eq)]
+pub struct ClassBudgets {
+    pub p0: u32,
+    pub p1: u32,
+    pub p2: u32,
+}
+
 impl ClassBudgets {
     fn of(self, class: Priority) -> u32
         ensures { result ≡ budget_in self class }
@@ -391,121 +387,34 @@ impl ClassBudgets {
     }
 }
 
-impl WriterInfo {
-    // What a P0 writer takes of the rate before the other classes.
-    fn urgent_part(self, reserve: u32, total: f32) -> u32
-        ensures { result ≡ urgent_part reserve total self }
-    {
-        let class = self.priority;
-        match class {
-            Priority::P0 => share(reserve, self.weight, total),
-            Priority::P1 => 0,
-            Priority::P2 => 0,
-        }
-    }
-
-    // A writer's part of what its class has.
-    fn budget_for(self, shares: Shares) -> u32
-        ensures { result ≡ budget_for shares self }
-    {
-        let class = self.priority;
-        let total = shares.weights.of(class);
-        share(shares.budgets.of(class), self.weight, total)
-    }
-
-    // The new budget; the old one is kept beside it.
-    fn with_budget(self, shares: Shares) -> WriterInfo
-        ensures { result ≡ with_budget shares self }
-    {
-        WriterInfo {
-            budget_bps: self.budget_for(shares),
-            previous_bps: self.budget_bps,
-            ..self
-        }
-    }
+#[derive(Clone, Copy, Debug, PartialEq)]
+pub struct Shares {
+    pub weights: ClassWeights,
+    pub budgets: ClassBudgets,
 }
 
-impl WriterTable {
-    // The weights, summed by class and then by id.
-    fn weights(self) -> ClassWeights
-        ensures { result ≡ weights_from no_weights (writers_of self) }
-    {
-        let n = taken(self.count);
-        let mut sums = ClassWeights::none();
-        let mut k: usize = 0;
-        while k < n {
-            let row = self.rows[k];
-            sums = sums.plus(row);
-            k += 1;
-        }
-        sums
-    }
-
-    // What P0's writers leave of a rate.
-    fn left(self, rate_bps: u32, reserve: u32, total: f32) -> u32
-        ensures { result ≡ left_from reserve total rate_bps (writers_of self) }
-    {
-        let n = taken(self.count);
-        let mut left = rate_bps;
-        let mut k: usize = 0;
-        while k < n {
-            let row = self.rows[k];
-            left = saturating_sub_u32(left, row.urgent_part(reserve, total));
-            k += 1;
-        }
-        left
-    }
-
-    // What each class has to share out of a rate, and its weights.
-    fn shares(self, config: AllocationConfig, rate_bps: u32) -> Shares
-        ensures { result ≡ shares_of config rate_bps (writers_of self) }
-    {
-        let weights = self.weights();
-        let p0 = reserve(config, rate_bps);
-        let left = self.left(rate_bps, p0, weights.p0);
-        let p1 = split(left);
-        Shares {
-            weights,
-            budgets: ClassBudgets {
-                p0,
-                p1,
-                p2: saturating_sub_u32(left, p1),
-            },
-        }
-    }
-
-    // Every writer gets its budget.
-    fn allot(mut self, shares: Shares) -> WriterTable
-        ensures { result ≡ allotted_table self shares }
-    {
-        let n = taken(self.count);
-        let mut k: usize = 0;
-        while k < n {
-            let row = self.rows[k];
-            let allotted = row.with_budget(shares);
-            self.rows[k] = allotted;
-            k += 1;
-        }
-        self
-    }
-
-    // A sum with every writer's budget.
-    fn distributed(self, sum: u64) -> u64
-        ensures { result ≡ distributed_from sum (writers_of self) }
-    {
-        let n = taken(self.count);
-        let mut total = sum;
-        let mut k: usize = 0;
-        while k < n {
-            let row = self.rows[k];
-            total = saturating_add(total, row.budget_bps as u64);
-            k += 1;
-        }
-        total
-    }
+// A weight's part of a budget, at least the least of a writer.
+fn share(budget: u32, weight: f32, total: f32) -> u32
+    ensures { result ≡ share_of budget weight total }
+{
+    scaled_u32(budget, weight / total).max(MIN_PER_WRITER)
 }
 
-#[derive(Clone, Copy)]
+// What P0 has to share out: its share of the rate, or more where it is guaranteed more.
+fn reserve(config: AllocationConfig, rate_bps: u32) -> u32
+    ensures { result ≡ reserve_of config rate_bps }
+{
+    scaled_u32(rate_bps, config.p0_min_share).max(config.p0_min_bps)
+}
+
+// P1's part of what P0's writers leave; the rest is P2's.
+fn split(left: u32) -> u32
+    ensures { result ≡ split_of left }
+{
+    scaled_u32(left, 0.7)
+}
+
+#[derive(Clone, Copy, Debug, PartialEq, Eq)]
 pub struct AllocationStats {
     pub reallocations: u64,
     pub writers_registered: u64,
@@ -513,7 +422,7 @@ pub struct AllocationStats {
     pub total_distributed_bps: u64,
 }
 
-#[derive(Clone, Copy)]
+#[derive(Clone, Copy, Debug, PartialEq)]
 pub struct BudgetAllocator {
     pub(crate) table: WriterTable,
     pub(crate) global_budget_bps: u32,
@@ -521,13 +430,13 @@ pub struct BudgetAllocator {
 }
 
 // An allocator, and whether the writer was there.
-#[derive(Clone, Copy)]
+#[derive(Clone, Copy, Debug, PartialEq)]
 pub struct Unregistered {
     pub allocator: BudgetAllocator,
     pub found: bool,
 }
 
-// The steps: total, with no numbers.
+// The steps: total, with no refusals.
 impl BudgetAllocator {
     pub fn new() -> BudgetAllocator
         ensures { result ≡ new_allocator }
@@ -555,37 +464,24 @@ impl BudgetAllocator {
     pub fn register_weighted(mut self, id: u64, priority: Priority, weight: f32) -> BudgetAllocator
         ensures { result ≡ registered self id priority weight }
     {
-        let writer = WriterInfo::with_weight(id, priority, weight);
-        let stats = self.stats;
-        let others = self.table.without(id);
-        self.table = others.enter(writer);
-        let stats = AllocationStats {
-            writers_registered: increment(stats.writers_registered),
-            ..stats
-        };
-        self.stats = stats;
+        self.table.remove(id);
+        self.table
+            .enter(WriterInfo::with_weight(id, priority, weight));
+        self.stats.writers_registered = self.stats.writers_registered.saturating_add(1);
         self
     }
 
     pub fn unregister(mut self, id: u64) -> Unregistered
         ensures { result ≡ unregistered self id }
     {
-        if self.table.is_known(id) {
-            let stats = self.stats;
-            self.table = self.table.without(id);
-            let stats = AllocationStats {
-                writers_unregistered: increment(stats.writers_unregistered),
-                ..stats
-            };
-            self.stats = stats;
-            return Unregistered {
-                allocator: self,
-                found: true,
-            };
+        let found = self.table.is_known(id);
+        if found {
+            self.table.remove(id);
+            self.stats.writers_unregistered = self.stats.writers_unregistered.saturating_add(1);
         }
         Unregistered {
             allocator: self,
-            found: false,
+            found,
         }
     }
 
@@ -594,16 +490,10 @@ impl BudgetAllocator {
         ensures { result ≡ reallocated self config rate_bps }
     {
         let shares = self.table.shares(config, rate_bps);
-        let table = self.table.allot(shares);
-        let stats = self.stats;
-        self.table = table;
+        self.table.allot(shares);
         self.global_budget_bps = rate_bps;
-        let stats = AllocationStats {
-            reallocations: increment(stats.reallocations),
-            total_distributed_bps: table.distributed(stats.total_distributed_bps),
-            ..stats
-        };
-        self.stats = stats;
+        self.stats.reallocations = self.stats.reallocations.saturating_add(1);
+        self.stats.total_distributed_bps = self.table.distributed(self.stats.total_distributed_bps);
         self
     }
 
@@ -632,64 +522,31 @@ impl BudgetAllocator {
     }
 }
 
-// An allocator used alone, with its own call count; it takes no times. The public calls, which turn down by number.
-#[derive(Clone, Copy)]
+// An allocator used alone, with its own call count; it takes no times. The public calls, which turn down by a reason.
+#[derive(Clone, Copy, Debug, PartialEq)]
 pub struct BudgetAllocatorAlone {
     ledger: Ledger,
     config: AllocationConfig,
     allocator: BudgetAllocator,
 }
 
-// The answer number, whether a writer that was to go was there, and what a call leaves.
-#[derive(Clone, Copy)]
-pub struct AllocatorAnswer {
-    pub answer: u8,
-    pub found: bool,
-    pub alone: BudgetAllocatorAlone,
-}
-
 // Whether a weight is no number, or above 1,000,000.
 fn weight_out(weight: f32) -> bool
     ensures { result ≡ weight_out weight }
 {
-    if is_finite_f32(weight) {
-        return weight > 1000000.0;
-    }
-    true
+    !is_finite_f32(weight) || weight > 1000000.0
 }
 
 impl BudgetAllocatorAlone {
-    // An allocator that was turned down: every number 0.
-    fn zero() -> BudgetAllocatorAlone
-        ensures { result ≡ zero_alone }
-    {
-        BudgetAllocatorAlone {
-            ledger: Ledger::new(0),
-            config: AllocationConfig::zero(),
-            allocator: BudgetAllocator::new(),
-        }
-    }
-
-    pub fn with_config(config: CongestionConfig) -> AllocatorAnswer
+    pub fn with_config(config: CongestionConfig) -> Result<BudgetAllocatorAlone, Refusal>
         ensures { result ≡ made_alone config }
     {
-        let checked = config.check();
-        if checked.answer != 0 {
-            return AllocatorAnswer {
-                answer: checked.answer,
-                found: false,
-                alone: BudgetAllocatorAlone::zero(),
-            };
-        }
-        AllocatorAnswer {
-            answer: 0,
-            found: false,
-            alone: BudgetAllocatorAlone {
-                ledger: Ledger::new(0),
-                config: AllocationConfig::from_config(config),
-                allocator: BudgetAllocator::new(),
-            },
-        }
+        config.check()?;
+        Ok(BudgetAllocatorAlone {
+            ledger: Ledger::new(0),
+            config: AllocationConfig::from_config(config),
+            allocator: BudgetAllocator::new(),
+        })
     }
 
     // The same allocator with a call count that was kept elsewhere, as over a restart.
@@ -702,98 +559,85 @@ impl BudgetAllocatorAlone {
         }
     }
 
-    pub fn register(self, id: u64, priority: Priority) -> AllocatorAnswer
+    pub fn register(self, id: u64, priority: Priority) -> Left<BudgetAllocatorAlone, ()>
         ensures { result ≡ registered_alone self id priority }
     {
-        self.left_by(
-            self.check_register(id),
-            false,
-            self.allocator.register(id, priority),
-        )
+        let allocator = self.allocator.register(id, priority);
+        self.left_by(self.check_register(id), allocator, ())
     }
 
-    pub fn register_weighted(self, id: u64, priority: Priority, weight: f32) -> AllocatorAnswer
+    pub fn register_weighted(
+        self,
+        id: u64,
+        priority: Priority,
+        weight: f32,
+    ) -> Left<BudgetAllocatorAlone, ()>
         ensures { result ≡ weighted_alone self id priority weight }
     {
-        self.left_by(
-            self.check_weighted(id, weight),
-            false,
-            self.allocator.register_weighted(id, priority, weight),
-        )
+        let allocator = self.allocator.register_weighted(id, priority, weight);
+        self.left_by(self.check_weighted(id, weight), allocator, ())
     }
 
-    pub fn unregister(self, id: u64) -> AllocatorAnswer
+    // Whether the writer was there.
+    pub fn unregister(self, id: u64) -> Left<BudgetAllocatorAlone, bool>
         ensures { result ≡ unregistered_alone self id }
     {
         let step = self.allocator.unregister(id);
-        let allocator = step.allocator;
-        self.left_by(self.ledger.check_counted(), step.found, allocator)
+        self.left_by(self.ledger.check_counted(), step.allocator, step.found)
     }
 
-    pub fn reallocate(self, rate_bps: u32) -> AllocatorAnswer
+    pub fn reallocate(self, rate_bps: u32) -> Left<BudgetAllocatorAlone, ()>
         ensures { result ≡ reallocated_alone self rate_bps }
     {
-        let config = self.config;
-        self.left_by(
-            self.check_allot(rate_bps),
-            false,
-            self.allocator.reallocate(config, rate_bps),
-        )
+        let allocator = self.allocator.reallocate(self.config, rate_bps);
+        self.left_by(self.check_allot(rate_bps), allocator, ())
     }
 
-    // 17, 14 or 0.
-    fn check_register(self, id: u64) -> u8
-        ensures { result ≡ answer_of (register_checks self id) }
+    // 17 and 14.
+    fn check_register(&self, id: u64) -> Result<(), Refusal>
+        ensures { result ≡ verdict_of (register_checks self.now id) }
     {
-        let answer = self.ledger.check_counted();
-        if answer != 0 {
-            return answer;
-        }
-        if self.allocator.is_full_for(id) {
-            return refusal::TABLE_FULL;
-        }
-        refusal::ACCEPTED
+        self.ledger.check_counted()?;
+        Refusal::TableFull.when(self.allocator.table.is_full_for(id))
     }
 
-    // 4, 17, 14 or 0.
-    fn check_weighted(self, id: u64, weight: f32) -> u8
-        ensures { result ≡ answer_of (weight_checks self id weight) }
+    // 4, 17 and 14.
+    fn check_weighted(&self, id: u64, weight: f32) -> Result<(), Refusal>
+        ensures { result ≡ verdict_of (weight_checks self.now id weight) }
     {
-        if weight_out(weight) {
-            return refusal::SAMPLE_BEYOND;
-        }
+        Refusal::SampleBeyond.when(weight_out(weight))?;
         self.check_register(id)
     }
 
-    // 6, 17 or 0.
-    fn check_allot(self, rate_bps: u32) -> u8
-        ensures { result ≡ answer_of (allot_checks self rate_bps) }
+    // 6 and 17.
+    fn check_allot(&self, rate_bps: u32) -> Result<(), Refusal>
+        ensures { result ≡ verdict_of (allot_checks self.now rate_bps) }
     {
-        if refusal::LARGEST_RATE < rate_bps {
-            return refusal::RATE_BEYOND;
-        }
+        Refusal::RateBeyond.when(LARGEST_RATE < rate_bps)?;
         self.ledger.check_counted()
     }
 
-    // What an accepted call leaves, or the number and the old state; the step is pure, so nothing is lost where the call is turned down.
-    fn left_by(self, answer: u8, found: bool, allocator: BudgetAllocator) -> AllocatorAnswer
-        ensures { result ≡ left_by answer found self allocator }
+    // What an accepted call leaves and tells, or the reason and the old state; the step is pure, so nothing is lost where the call is turned down.
+    fn left_by<T: Drop>(
+        self,
+        verdict: Result<(), Refusal>,
+        allocator: BudgetAllocator,
+        told: T,
+    ) -> Left<BudgetAllocatorAlone, T>
+        ensures { result ≡ left_by verdict self (allocator, told) }
     {
-        if answer != 0 {
-            return AllocatorAnswer {
-                answer,
-                found: false,
-                alone: self,
-            };
-        }
-        let config = self.config;
-        AllocatorAnswer {
-            answer: 0,
-            found,
-            alone: BudgetAllocatorAlone {
-                ledger: self.ledger.counted(),
-                config,
-                allocator,
+        match verdict {
+            Err(refusal) => Left {
+                state: self,
+                answer: Err(refusal),
+            },
+            Ok(()) => Left {
+                state: BudgetAllocatorAlone {
+                    ledger: self.ledger.counted(),
+                    allocator,
+                    ..self
+                },
+                answer: Ok(told),
             },
         }
     }

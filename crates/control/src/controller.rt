@@ -1,17 +1,19 @@
 // The congestion controller: signals reach the scorer, whose ticks steer the rate, which is shared out among the writers.
+#![tactic(auto, unfolding(config::specs::Refusal::verdict_of, crate::specs::Controller::new_core, crate::specs::Controller::on_eagain, crate::specs::Controller::on_nacks, crate::specs::Controller::marked, crate::specs::Controller::on_ecn_tos, crate::specs::Controller::on_ecn_ce, crate::specs::Controller::on_inflated, crate::specs::Controller::on_window, crate::specs::Controller::steered, crate::specs::Controller::core_ticked, crate::specs::Controller::core_set, crate::specs::Controller::new_controller, crate::specs::Controller::registered_in, crate::specs::Controller::sampled, crate::specs::Controller::controller_ticked, crate::specs::Controller::controller_set, crate::specs::Controller::full_for_peer, crate::specs::ControllerAlone::made_alone, crate::specs::ControllerAlone::registered_alone, crate::specs::ControllerAlone::signalled_alone, crate::specs::ControllerAlone::eagain_alone, crate::specs::ControllerAlone::nacks_alone, crate::specs::ControllerAlone::tos_alone, crate::specs::ControllerAlone::ce_alone, crate::specs::ControllerAlone::sampled_alone, crate::specs::ControllerAlone::ticked_alone, crate::specs::ControllerAlone::rated_alone))]
+
 ghost use Rattle.std.specs.Prelude.{◌≡◌};
-ghost use Rattle.config.specs.Refusal.{answer_of};
-ghost use Rattle.control.specs.Controller.{ecn_used, controller_config_of, new_core, on_eagain, on_nacks, marked, on_ecn_tos, on_ecn_ce, on_inflated, on_window, steered, core_ticked, core_set, controller_of, new_controller, registered_in, sampled, controller_ticked, controller_set, full_for_peer};
-ghost use Rattle.control.specs.ControllerAlone.{no_config, zero_alone, made_alone, resumed_alone, register_checks, peer_checks, left_by, signalled_alone, registered_alone, eagain_alone, nacks_alone, tos_alone, ce_alone, sampled_alone, ticked_alone, rated_alone};
+ghost use Rattle.config.specs.Refusal.{verdict_of};
+ghost use Rattle.control.specs.Controller.{controller_config_of, new_core, on_eagain, on_nacks, marked, on_ecn_tos, on_ecn_ce, on_inflated, on_window, steered, core_ticked, core_set, controller_of, new_controller, registered_in, sampled, controller_ticked, controller_set, full_for_peer};
+ghost use Rattle.control.specs.ControllerAlone.{made_alone, resumed_alone, register_checks, peer_checks, left_by, signalled_alone, registered_alone, eagain_alone, nacks_alone, tos_alone, ce_alone, sampled_alone, ticked_alone, rated_alone};
 
 use crate::budget_allocator::{AllocationConfig, BudgetAllocator};
 use crate::metrics::CongestionMetrics;
 use crate::rate_controller::{RateController, RateParams};
 use crate::scorer::{CongestionScorer, ScorerConfig};
+use config::alone::Left;
 use config::config::{CongestionConfig, EcnMode, Priority};
 use config::ledger::Ledger;
-use config::refusal;
-use numeric::integer::{saturating_add_u32, saturating_sub};
+use config::refusal::Refusal;
 use signals::ecn::EcnProcessor;
 use signals::rtt_estimator::{PeerRttTracker, check_sample};
 
@@ -22,7 +24,7 @@ const NACK_WINDOW: u64 = 1000000000;
 const DEFAULT_RTT_MS: f32 = 100.0;
 
 // What the settings say to the controller and its parts.
-#[derive(Clone, Copy)]
+#[derive(Clone, Copy, Debug, PartialEq)]
 pub struct ControllerConfig {
     pub enabled: bool,
     pub ecn: bool,
@@ -31,54 +33,30 @@ pub struct ControllerConfig {
     pub allocation: AllocationConfig,
 }
 
-// Whether marks are looked at.
-fn is_ecn_used(mode: EcnMode) -> bool
-    ensures { result ≡ ecn_used mode }
-{
-    match mode {
-        EcnMode::Off => false,
-        EcnMode::Opportunistic => true,
-        EcnMode::Mandatory => true,
-    }
-}
-
 impl ControllerConfig {
+    // Marks are looked at unless congestion notification is off.
     pub fn from_config(config: CongestionConfig) -> ControllerConfig
         ensures { result ≡ controller_config_of config }
     {
-        let mode = config.ecn_mode;
         ControllerConfig {
             enabled: config.enabled,
-            ecn: is_ecn_used(mode),
+            ecn: config.ecn_mode != EcnMode::Off,
             scorer: ScorerConfig::from_config(config),
             rate: RateParams::from_config(config),
             allocation: AllocationConfig::from_config(config),
         }
     }
-
-    // Settings that were turned down: disabled, and every number 0.
-    pub fn zero() -> ControllerConfig
-        ensures { result ≡ no_config }
-    {
-        ControllerConfig {
-            enabled: false,
-            ecn: false,
-            scorer: ScorerConfig::zero(),
-            rate: RateParams::zero(),
-            allocation: AllocationConfig::zero(),
-        }
-    }
 }
 
 // The NACKs of the current window, and when it began.
-#[derive(Clone, Copy)]
+#[derive(Clone, Copy, Debug, PartialEq, Eq)]
 pub struct NackWindow {
     pub count: u32,
     pub start: u64,
 }
 
 // All but the tables: what the signals and a tick that changes nothing touch.
-#[derive(Clone, Copy)]
+#[derive(Clone, Copy, Debug, PartialEq)]
 pub struct ControllerCore {
     pub(crate) scorer: CongestionScorer,
     pub(crate) rate_controller: RateController,
@@ -89,20 +67,20 @@ pub struct ControllerCore {
 }
 
 // A core, and whether congestion is signalled.
-#[derive(Clone, Copy)]
+#[derive(Clone, Copy, Debug, PartialEq)]
 pub struct Marked {
     pub core: ControllerCore,
     pub signal: bool,
 }
 
 // A core, and whether its rate changed.
-#[derive(Clone, Copy)]
+#[derive(Clone, Copy, Debug, PartialEq)]
 pub struct CoreTicked {
     pub core: ControllerCore,
     pub changed: bool,
 }
 
-// The steps on the core: total, with no numbers. Disabled, signals and ticks leave it.
+// The steps on the core: total, with no refusals. Disabled, signals and ticks leave it.
 impl ControllerCore {
     // The rate begins at its largest.
     pub fn new(config: ControllerConfig, time: u64) -> ControllerCore
@@ -128,7 +106,6 @@ impl ControllerCore {
         if config.enabled {
             self.scorer = self.scorer.on_eagain();
             self.metrics = self.metrics.record_eagain();
-            return self;
         }
         self
     }
@@ -138,13 +115,7 @@ impl ControllerCore {
         ensures { result ≡ on_nacks self config count }
     {
         if config.enabled {
-            let nacks = self.nacks;
-            let nacks = NackWindow {
-                count: saturating_add_u32(nacks.count, count),
-                start: nacks.start,
-            };
-            self.nacks = nacks;
-            return self;
+            self.nacks.count = self.nacks.count.saturating_add(count);
         }
         self
     }
@@ -161,26 +132,17 @@ impl ControllerCore {
     pub fn on_ecn_tos(mut self, config: ControllerConfig, tos: u8) -> Marked
         ensures { result ≡ on_ecn_tos self config tos }
     {
-        if config.enabled {
-            if config.ecn {
-                let processed = self.ecn.process_tos(tos);
-                let processor = processed.processor;
-                self.ecn = processor;
-                if processed.signal {
-                    return Marked {
-                        core: self.mark(),
-                        signal: true,
-                    };
-                }
-                return Marked {
-                    core: self,
-                    signal: false,
-                };
-            }
+        if !config.enabled || !config.ecn {
+            return Marked {
+                core: self,
+                signal: false,
+            };
         }
+        let processed = self.ecn.process_tos(tos);
+        self.ecn = processed.processor;
         Marked {
-            core: self,
-            signal: false,
+            core: if processed.signal { self.mark() } else { self },
+            signal: processed.signal,
         }
     }
 
@@ -188,15 +150,12 @@ impl ControllerCore {
     pub fn on_ecn_ce(mut self, config: ControllerConfig) -> ControllerCore
         ensures { result ≡ on_ecn_ce self config }
     {
-        if config.enabled {
-            if config.ecn {
-                let processed = self.ecn.process_ce();
-                let processor = processed.processor;
-                self.ecn = processor;
-                return self.mark();
-            }
+        if config.enabled && config.ecn {
+            self.ecn = self.ecn.process_ce().processor;
+            self.mark()
+        } else {
+            self
         }
-        self
     }
 
     // An inflated peer reaches the scorer at a tick.
@@ -205,7 +164,6 @@ impl ControllerCore {
     {
         if inflated {
             self.scorer = self.scorer.on_rtt_inflated();
-            return self;
         }
         self
     }
@@ -215,17 +173,14 @@ impl ControllerCore {
         ensures { result ≡ on_window self threshold time }
     {
         let nacks = self.nacks;
-        if saturating_sub(time, nacks.start) >= NACK_WINDOW {
-            let empty = NackWindow {
+        if time.saturating_sub(nacks.start) >= NACK_WINDOW {
+            self.nacks = NackWindow {
                 count: 0,
                 start: time,
             };
-            self.nacks = empty;
             if nacks.count > threshold {
                 self.scorer = self.scorer.on_nack();
-                return self;
             }
-            return self;
         }
         self
     }
@@ -235,13 +190,14 @@ impl ControllerCore {
         ensures { result ≡ steered self config time }
     {
         let ticked = self.scorer.tick(config.scorer, time);
-        let action = ticked.action;
-        let scorer = ticked.scorer;
-        self.scorer = scorer;
-        let applied = self.rate_controller.apply_action(config.rate, time, action);
-        let rate = applied.controller;
-        self.rate_controller = rate;
-        self.metrics = self.metrics.record_change(applied.changed, rate.rate());
+        self.scorer = ticked.scorer;
+        let applied = self
+            .rate_controller
+            .apply_action(config.rate, time, ticked.action);
+        self.rate_controller = applied.controller;
+        self.metrics = self
+            .metrics
+            .record_change(applied.changed, self.rate_controller.rate());
         CoreTicked {
             core: self,
             changed: applied.changed,
@@ -252,17 +208,16 @@ impl ControllerCore {
     pub fn tick(mut self, config: ControllerConfig, time: u64, inflated: bool) -> CoreTicked
         ensures { result ≡ core_ticked self config time inflated }
     {
-        if config.enabled {
-            self.last_tick = time;
-            let noted = self.note_inflated(inflated);
-            return noted
-                .update_nack_rate(config.scorer.nack_threshold, time)
-                .steer(config, time);
+        if !config.enabled {
+            return CoreTicked {
+                core: self,
+                changed: false,
+            };
         }
-        CoreTicked {
-            core: self,
-            changed: false,
-        }
+        self.last_tick = time;
+        self.note_inflated(inflated)
+            .update_nack_rate(config.scorer.nack_threshold, time)
+            .steer(config, time)
     }
 
     // The rate is held to its range; the metrics take it as given.
@@ -318,7 +273,7 @@ impl ControllerCore {
 }
 
 // The core and the two tables.
-#[derive(Clone, Copy)]
+#[derive(Clone, Copy, Debug, PartialEq)]
 pub struct CongestionController {
     pub(crate) core: ControllerCore,
     pub(crate) tracker: PeerRttTracker,
@@ -326,13 +281,13 @@ pub struct CongestionController {
 }
 
 // A controller, and whether its rate changed: each writer's row then tells its update.
-#[derive(Clone, Copy)]
+#[derive(Clone, Copy, Debug, PartialEq)]
 pub struct ControllerTicked {
     pub controller: CongestionController,
     pub changed: bool,
 }
 
-// The steps that touch a table: total, with no numbers.
+// The steps that touch a table: total, with no refusals.
 impl CongestionController {
     // A controller from its parts.
     pub fn of(
@@ -378,7 +333,6 @@ impl CongestionController {
     {
         if config.enabled {
             self.tracker = self.tracker.update(time, peer_id, rtt_ms);
-            return self;
         }
         self
     }
@@ -388,18 +342,15 @@ impl CongestionController {
         ensures { result ≡ controller_ticked self config time }
     {
         let ticked = self.core.tick(config, time, self.tracker.any_inflated());
-        let core = ticked.core;
-        self.core = core;
+        self.core = ticked.core;
         if ticked.changed {
-            self.allocator = self.allocator.reallocate(config.allocation, core.rate());
-            return ControllerTicked {
-                controller: self,
-                changed: true,
-            };
+            self.allocator = self
+                .allocator
+                .reallocate(config.allocation, self.core.rate());
         }
         ControllerTicked {
             controller: self,
-            changed: false,
+            changed: ticked.changed,
         }
     }
 
@@ -421,10 +372,7 @@ impl CongestionController {
     fn is_full_for_peer(self, config: ControllerConfig, peer_id: u32) -> bool
         ensures { result ≡ full_for_peer self config peer_id }
     {
-        if config.enabled {
-            return self.tracker.is_full_for(peer_id);
-        }
-        false
+        config.enabled && self.tracker.is_full_for(peer_id)
     }
 
     pub fn core(self) -> ControllerCore
@@ -446,57 +394,25 @@ impl CongestionController {
     }
 }
 
-// A controller used alone, with its own call count and last time: the public calls, which turn down by number.
-#[derive(Clone, Copy)]
+// A controller used alone, with its own call count and last time: the public calls, which turn down with a reason.
+#[derive(Clone, Copy, Debug, PartialEq)]
 pub struct CongestionControllerAlone {
     ledger: Ledger,
     config: ControllerConfig,
     controller: CongestionController,
 }
 
-// The answer number and what a call leaves. `told`: of a TOS byte, whether congestion is signalled; of a tick or a rate that is set, whether
-// the writers' rows tell updates; else false.
-#[derive(Clone, Copy)]
-pub struct ControllerAnswer {
-    pub answer: u8,
-    pub told: bool,
-    pub alone: CongestionControllerAlone,
-}
-
 impl CongestionControllerAlone {
-    // A controller that was turned down: disabled, with every setting 0.
-    fn zero() -> CongestionControllerAlone
-        ensures { result ≡ zero_alone }
-    {
-        let config = ControllerConfig::zero();
-        CongestionControllerAlone {
-            ledger: Ledger::new(0),
-            config,
-            controller: CongestionController::new(config, 0),
-        }
-    }
-
-    pub fn new(config: CongestionConfig, time: u64) -> ControllerAnswer
+    pub fn new(config: CongestionConfig, time: u64) -> Result<CongestionControllerAlone, Refusal>
         ensures { result ≡ made_alone config time }
     {
-        let answer = config.check_making(time);
-        if answer != 0 {
-            return ControllerAnswer {
-                answer,
-                told: false,
-                alone: CongestionControllerAlone::zero(),
-            };
-        }
+        config.check_making(time)?;
         let settings = ControllerConfig::from_config(config);
-        ControllerAnswer {
-            answer: 0,
-            told: false,
-            alone: CongestionControllerAlone {
-                ledger: Ledger::new(time),
-                config: settings,
-                controller: CongestionController::new(settings, time),
-            },
-        }
+        Ok(CongestionControllerAlone {
+            ledger: Ledger::new(time),
+            config: settings,
+            controller: CongestionController::new(settings, time),
+        })
     }
 
     // The same controller with a call count that was kept elsewhere, as over a restart.
@@ -510,141 +426,136 @@ impl CongestionControllerAlone {
     }
 
     // Works disabled too.
-    pub fn register_writer(self, id: u64, priority: Priority) -> ControllerAnswer
+    pub fn register_writer(self, id: u64, priority: Priority) -> Left<CongestionControllerAlone, ()>
         ensures { result ≡ registered_alone self id priority }
     {
-        let answer = self.check_register(id);
         let controller = self.controller.register_writer(id, priority);
-        self.left_by(answer, false, self.ledger.counted(), controller)
-    }
-
-    pub fn on_eagain(self) -> ControllerAnswer
-        ensures { result ≡ eagain_alone self }
-    {
-        let core = self.controller.core;
-        self.signalled(false, core.on_eagain(self.config))
-    }
-
-    pub fn on_nacks(self, count: u32) -> ControllerAnswer
-        ensures { result ≡ nacks_alone self count }
-    {
-        let core = self.controller.core;
-        self.signalled(false, core.on_nacks(self.config, count))
-    }
-
-    pub fn on_ecn_tos(self, tos: u8) -> ControllerAnswer
-        ensures { result ≡ tos_alone self tos }
-    {
-        let core = self.controller.core;
-        let marked = core.on_ecn_tos(self.config, tos);
-        let left = marked.core;
-        self.signalled(marked.signal, left)
-    }
-
-    pub fn on_ecn_ce(self) -> ControllerAnswer
-        ensures { result ≡ ce_alone self }
-    {
-        let core = self.controller.core;
-        self.signalled(false, core.on_ecn_ce(self.config))
-    }
-
-    pub fn on_rtt_sample(self, time: u64, peer_id: u32, rtt_ms: f32) -> ControllerAnswer
-        ensures { result ≡ sampled_alone self time peer_id rtt_ms }
-    {
-        let answer = self.check_peer(time, peer_id, rtt_ms);
-        let config = self.config;
-        let controller = self.controller.on_rtt_sample(config, time, peer_id, rtt_ms);
-        self.left_by(answer, false, self.ledger.moved(time), controller)
-    }
-
-    pub fn tick(self, time: u64) -> ControllerAnswer
-        ensures { result ≡ ticked_alone self time }
-    {
-        let answer = self.ledger.check_timed(time);
-        let config = self.config;
-        let ticked = self.controller.tick(config, time);
-        let controller = ticked.controller;
-        self.left_by(answer, ticked.changed, self.ledger.moved(time), controller)
-    }
-
-    // The rate is held to its range, but the rate as given is shared out. Works disabled too.
-    pub fn set_rate(self, time: u64, rate_bps: u32) -> ControllerAnswer
-        ensures { result ≡ rated_alone self time rate_bps }
-    {
-        let answer = self.ledger.check_rate(time, rate_bps);
-        let config = self.config;
-        let controller = self.controller.set_rate(config, time, rate_bps);
-        self.left_by(answer, true, self.ledger.moved(time), controller)
-    }
-
-    // 17, 14 or 0.
-    fn check_register(self, id: u64) -> u8
-        ensures { result ≡ answer_of (register_checks self id) }
-    {
-        let answer = self.ledger.check_counted();
-        if answer != 0 {
-            return answer;
-        }
-        let allocator = self.controller.allocator;
-        if allocator.is_full_for(id) {
-            return refusal::TABLE_FULL;
-        }
-        refusal::ACCEPTED
-    }
-
-    // 4, 7, 17, 11, 14 or 0, for a peer's sample at a time.
-    fn check_peer(self, time: u64, peer_id: u32, rtt_ms: f32) -> u8
-        ensures { result ≡ answer_of (peer_checks self time peer_id rtt_ms) }
-    {
-        let answer = check_sample(self.ledger, time, rtt_ms);
-        if answer != 0 {
-            return answer;
-        }
-        let config = self.config;
-        if self.controller.is_full_for_peer(config, peer_id) {
-            return refusal::TABLE_FULL;
-        }
-        refusal::ACCEPTED
-    }
-
-    // A signal takes no time and touches the core alone.
-    fn signalled(self, told: bool, core: ControllerCore) -> ControllerAnswer
-        ensures { result ≡ signalled_alone self told core }
-    {
-        let controller = self.controller;
         self.left_by(
-            self.ledger.check_counted(),
-            told,
+            self.check_register(id),
             self.ledger.counted(),
-            CongestionController { core, ..controller },
+            controller,
+            (),
         )
     }
 
-    // What an accepted call leaves, or the number and the old state; the step is pure, so nothing is lost where the call is turned down.
-    fn left_by(
+    pub fn on_eagain(self) -> Left<CongestionControllerAlone, ()>
+        ensures { result ≡ eagain_alone self }
+    {
+        self.signalled(self.controller.core.on_eagain(self.config), ())
+    }
+
+    pub fn on_nacks(self, count: u32) -> Left<CongestionControllerAlone, ()>
+        ensures { result ≡ nacks_alone self count }
+    {
+        self.signalled(self.controller.core.on_nacks(self.config, count), ())
+    }
+
+    // Whether congestion is signalled.
+    pub fn on_ecn_tos(self, tos: u8) -> Left<CongestionControllerAlone, bool>
+        ensures { result ≡ tos_alone self tos }
+    {
+        let marked = self.controller.core.on_ecn_tos(self.config, tos);
+        self.signalled(marked.core, marked.signal)
+    }
+
+    pub fn on_ecn_ce(self) -> Left<CongestionControllerAlone, ()>
+        ensures { result ≡ ce_alone self }
+    {
+        self.signalled(self.controller.core.on_ecn_ce(self.config), ())
+    }
+
+    pub fn on_rtt_sample(
         self,
-        answer: u8,
-        told: bool,
+        time: u64,
+        peer_id: u32,
+        rtt_ms: f32,
+    ) -> Left<CongestionControllerAlone, ()>
+        ensures { result ≡ sampled_alone self time peer_id rtt_ms }
+    {
+        let verdict = self.check_peer(time, peer_id, rtt_ms);
+        let controller = self
+            .controller
+            .on_rtt_sample(self.config, time, peer_id, rtt_ms);
+        self.left_by(verdict, self.ledger.moved(time), controller, ())
+    }
+
+    // Whether the writers' rows tell updates, since the rate changed.
+    pub fn tick(self, time: u64) -> Left<CongestionControllerAlone, bool>
+        ensures { result ≡ ticked_alone self time }
+    {
+        let verdict = self.ledger.check_timed(time);
+        let ticked = self.controller.tick(self.config, time);
+        self.left_by(
+            verdict,
+            self.ledger.moved(time),
+            ticked.controller,
+            ticked.changed,
+        )
+    }
+
+    // The rate is held to its range, but the rate as given is shared out: the writers' rows always tell updates. Works disabled too.
+    pub fn set_rate(self, time: u64, rate_bps: u32) -> Left<CongestionControllerAlone, bool>
+        ensures { result ≡ rated_alone self time rate_bps }
+    {
+        let verdict = self.ledger.check_rate(time, rate_bps);
+        let controller = self.controller.set_rate(self.config, time, rate_bps);
+        self.left_by(verdict, self.ledger.moved(time), controller, true)
+    }
+
+    // 17 and 14.
+    fn check_register(&self, id: u64) -> Result<(), Refusal>
+        ensures { result ≡ verdict_of (register_checks self.now id) }
+    {
+        self.ledger.check_counted()?;
+        Refusal::TableFull.when(self.controller.allocator.is_full_for(id))
+    }
+
+    // 4, 7, 17, 11 and 14, for a peer's sample at a time.
+    fn check_peer(&self, time: u64, peer_id: u32, rtt_ms: f32) -> Result<(), Refusal>
+        ensures { result ≡ verdict_of (peer_checks self.now time peer_id rtt_ms) }
+    {
+        check_sample(self.ledger, time, rtt_ms)?;
+        Refusal::TableFull.when(self.controller.is_full_for_peer(self.config, peer_id))
+    }
+
+    // A signal takes no time and touches the core alone.
+    fn signalled<T: Drop>(self, core: ControllerCore, told: T) -> Left<CongestionControllerAlone, T>
+        ensures { result ≡ signalled_alone self core told }
+    {
+        let controller = CongestionController {
+            core,
+            ..self.controller
+        };
+        self.left_by(
+            self.ledger.check_counted(),
+            self.ledger.counted(),
+            controller,
+            told,
+        )
+    }
+
+    // What an accepted call leaves and tells, or the reason and the old state; the step is pure, so nothing is lost where the call is turned down.
+    fn left_by<T: Drop>(
+        self,
+        verdict: Result<(), Refusal>,
         ledger: Ledger,
         controller: CongestionController,
-    ) -> ControllerAnswer
-        ensures { result ≡ left_by answer told self ledger controller }
+        told: T,
+    ) -> Left<CongestionControllerAlone, T>
+        ensures { result ≡ left_by verdict self ledger (controller, told) }
     {
-        if answer != 0 {
-            return ControllerAnswer {
-                answer,
-                told: false,
-                alone: self,
-            };
-        }
-        let config = self.config;
-        ControllerAnswer {
-            answer: 0,
-            told,
-            alone: CongestionControllerAlone {
-                ledger,
-                config,
-                controller,
+        match verdict {
+            Err(refusal) => Left {
+                state: self,
+                answer: Err(refusal),
+            },
+            Ok(()) => Left {
+                state: CongestionControllerAlone {
+                    ledger,
+                    controller,
+                    ..self
+                },
+                answer: Ok(told),
             },
         }
     }
