@@ -1,5 +1,5 @@
 -- Round-trip times (RFC 6298, section 2): f32, alpha 0.125, beta 0.25. Definitions only.
-use Rattle.std.specs.Prelude.{ℕ, ◌+◌, min, Bool, true, false, cond, List, Option, Some, None, ltb, leb, eqb, Float, get_or, set, replicate}
+use Rattle.std.specs.Prelude.{ℕ, ◌+◌, min, Bool, false, cond, List, Option, Some, None, ltb, leb, eqb, Float, get_or, set, replicate}
 use Rattle.std.specs.Float.{nan, binary32}
 use Rattle.std.specs.Float.Ieee.{of_bits, add, sub, mul, div, lt}
 use Rattle.numeric.specs.Float.{max_of, abs_of}
@@ -119,12 +119,8 @@ unfoldable pub full_for : PeerRttTracker → ℕ → Bool
 full_for t id =
     cond (ltb (place_of t.ids t.count id) (known_of t.count)) false (leb 64 (known_of t.count))
 
--- a sample, where the table is not full for its peer
-unfoldable pub tracker_entered : PeerRttTracker → ℕ → ℕ → Float → Option PeerRttTracker
-tracker_entered t time id x = cond (full_for t id) None (Some (tracker_updated t time id x))
-
 -- ---- the same on one row of the table, for a loop that keeps the table and hands on a row. Nothing new: on the row at `seat_of` a sample comes to
--- `tracker_entered` (`row_like`, proofs/Peers.antt)
+-- `tracker_updated` and `full_for` (`row_like`, proofs/Peers.antt)
 
 abbrev pub row_of : ℕ → RttEstimator → ℕ → Float → PeerRow
 row_of id e count x = record { id = id; estimator = e; count = count; default_ms = x }

@@ -1,5 +1,5 @@
 // The signals of congestion: marks of explicit congestion notification and round-trip times.
-#![tactic(auto, unfolding(config::specs::Refusal::verdict_of))]
+#![tactic(auto, unfolding(config::specs::Refusal::verdict_of, crate::specs::Ecn::recorded, crate::specs::Ecn::responded, crate::specs::Ecn::counted, crate::specs::Ecn::window_signals, crate::specs::Ecn::closed, crate::specs::Ecn::processed_tos, crate::specs::Ecn::processed_ce, crate::specs::EcnAlone::tos_alone, crate::specs::EcnAlone::ce_alone, crate::specs::RttEstimator::updated, crate::specs::RttEstimator::inflated, crate::specs::RttEstimator::seat_of, crate::specs::RttEstimator::full_for, crate::specs::RttEstimator::row_entered, crate::specs::RttEstimatorAlone::sample_out, crate::specs::RttEstimatorAlone::new_alone, crate::specs::RttEstimatorAlone::updated_alone, crate::specs::PeerRttTrackerAlone::new_tracker_alone, crate::specs::PeerRttTrackerAlone::tracker_updated_alone))]
 
 pub mod ecn;
 pub mod ecn_alone;

@@ -1,7 +1,7 @@
 // Round-trip times: an average, its variance and the least sample, for one peer and for up to 64.
-ghost use Rattle.std.specs.Prelude.{◌≡◌, ◌<◌};
+ghost use Rattle.std.specs.Prelude.{◌≡◌, ◌<◌, not};
 ghost use Rattle.config.specs.Refusal.{verdict_of};
-ghost use Rattle.signals.specs.RttEstimator.{lesser_of, new_estimator, updated, inflated, rto_of, place_of, known_of, new_tracker, seat_of, row_entered, tracker_updated, tracker_entered, full_for, any_inflated, id_at, shown_at};
+ghost use Rattle.signals.specs.RttEstimator.{lesser_of, new_estimator, updated, inflated, rto_of, place_of, known_of, new_tracker, seat_of, row_entered, tracker_updated, full_for, any_inflated, id_at, shown_at};
 ghost use Rattle.signals.specs.RttEstimatorAlone.{sample_out, sample_checks};
 
 use config::ledger::Ledger;
@@ -205,15 +205,17 @@ impl PeerRttTracker {
     }
 
     // One sample more for a peer, which is entered where it is new; a full table takes no new peer.
-    pub fn update(self, time: u64, peer_id: u32, rtt_ms: f32) -> PeerRttTracker
+    pub fn update(mut self, time: u64, peer_id: u32, rtt_ms: f32) -> PeerRttTracker
         ensures { result ≡ tracker_updated self time peer_id rtt_ms }
     {
-        self.enter(time, peer_id, rtt_ms).unwrap_or(self)
+        self.update_in_place(time, peer_id, rtt_ms);
+        self
     }
 
-    // The same with one search, and None where the table is full for the peer.
-    pub fn enter(mut self, time: u64, peer_id: u32, rtt_ms: f32) -> Option<PeerRttTracker>
-        ensures { result ≡ tracker_entered self time peer_id rtt_ms }
+    // The same on a tracker that is lent, with one search, and whether there was room for the peer.
+    pub fn update_in_place(&mut self, time: u64, peer_id: u32, rtt_ms: f32) -> bool
+        ensures tracker_value { self.new ≡ tracker_updated self.old time peer_id rtt_ms }
+        ensures room_value { result ≡ not (full_for self.old peer_id) }
     {
         let at = seat_of(&self.ids, self.count, peer_id);
         let row = PeerRow {
@@ -222,11 +224,13 @@ impl PeerRttTracker {
             count: self.count,
             default_ms: self.default_ms,
         };
-        let after = row.enter(at, time, peer_id, rtt_ms)?;
+        let Some(after) = row.enter(at, time, peer_id, rtt_ms) else {
+            return false;
+        };
         self.ids[at] = after.id;
         self.peers[at] = after.estimator;
         self.count = after.count;
-        Some(self)
+        true
     }
 
     // Whether a peer is not there and there is no room for it.
@@ -237,14 +241,8 @@ impl PeerRttTracker {
         n <= place_of(&self.ids, self.count, peer_id) && MOST_PEERS <= n
     }
 
-    // Whether any peer's round-trip time is inflated; with no peers the table is not looked at.
+    // Whether any peer's round-trip time is inflated.
     pub fn any_inflated(self) -> bool
-        ensures { result ≡ any_inflated self }
-    {
-        self.count != 0 && self.finds_inflated()
-    }
-
-    fn finds_inflated(self) -> bool
         ensures { result ≡ any_inflated self }
     {
         self.peers[..known(self.count)]

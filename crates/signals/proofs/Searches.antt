@@ -1,0 +1,36 @@
+-- The first place at which a test holds, as an iterator over the first n elements finds it. Assumes nothing.
+use Rattle.std.proofs.Common.{◌≡◌, ℕ, zero, suc, ◌≤◌, Bool, true, false, Some, None, List, [], ◌∷◌, ◌||◌, cond, get_or, take, length, refl, arith, nat_lt, length-take-le}
+use Rattle.std.specs.List.{position, position_or_len, list_any}
+use Rattle.std.specs.Option.{unwrap_or}
+use Rattle.numeric.specs.Search.{first}
+use Rattle.numeric.proofs.Search.{first-most}
+
+-- the place of the first, or n where none is among them
+place-first :
+    {X : Type 0} (p : X → Bool) (d : X) (xs : List X) (n : ℕ) → n ≤ length xs → position_or_len p (take n xs) ≡ first (λ (k : ℕ). p (get_or xs k d)) n
+unfolding first
+place-first p d xs zero h = refl
+place-first p d [] (suc n) h = absurd (omega (arith, h))
+place-first p d (x ∷ xs) (suc n) h = grind (arith, place-first p d xs n)
+
+pub position-first :
+    {X : Type 0} (p : X → Bool) (d : X) (xs : List X) (n : ℕ) → n ≤ length xs
+    → unwrap_or (position p (take n xs)) n ≡ first (λ (k : ℕ). p (get_or xs k d)) n
+position-first p d xs n h =
+    let f : ℕ = first (λ (k : ℕ). p (get_or xs k d)) n in
+    rw (length-take-le n xs h, place-first p d xs n h) (held f n (first-most (λ (k : ℕ). p (get_or xs k d)) n))
+  where
+    held : (f n : ℕ) → f ≤ n → unwrap_or (cond (nat_lt f n) (Some f) None) n ≡ f
+    held f n h = grind arith
+
+-- whether one is among them
+pub any_first :
+    {X : Type 0} (p : X → Bool) (d : X) (xs : List X) (n : ℕ) → n ≤ length xs → list_any p (take n xs) ≡ nat_lt (first (λ (k : ℕ). p (get_or xs k d)) n) n
+unfolding first
+any_first p d xs zero h = refl
+any_first p d [] (suc n) h = absurd (omega (arith, h))
+any_first p d (x ∷ xs) (suc n) h = go (p x) _ (any_first p d xs n (omega (arith, h)))
+  where
+    go : (b : Bool) {r : Bool} (k : ℕ) → r ≡ nat_lt k n → (b || r) ≡ nat_lt (cond b 0 (suc k)) (suc n)
+    go true k e = grind arith
+    go false k e = grind arith
