@@ -59,33 +59,7 @@ defaults =
 -- settings with another `enabled`, other queue limits and another ECN mode
 abbrev pub settings_with : CongestionConfig → Bool → ℕ → ℕ → ℕ → EcnMode → CongestionConfig
 settings_with c enabled p0 p1 p2 mode =
-    record {
-      enabled = enabled;
-      min_rate_bps = c.min_rate_bps;
-      max_rate_bps = c.max_rate_bps;
-      ai_step_bps = c.ai_step_bps;
-      md_factor_hard = c.md_factor_hard;
-      md_factor_soft = c.md_factor_soft;
-      stable_window_ms = c.stable_window_ms;
-      cooldown_ms = c.cooldown_ms;
-      score_tick_ms = c.score_tick_ms;
-      score_decay = c.score_decay;
-      decrease_threshold = c.decrease_threshold;
-      increase_threshold = c.increase_threshold;
-      hysteresis_band = c.hysteresis_band;
-      eagain_is_hard = c.eagain_is_hard;
-      eagain_impulse = c.eagain_impulse;
-      rtt_impulse = c.rtt_impulse;
-      nack_rate_threshold = c.nack_rate_threshold;
-      nack_impulse = c.nack_impulse;
-      repair_budget_ratio = c.repair_budget_ratio;
-      max_queue_p0 = p0;
-      max_queue_p1 = p1;
-      max_queue_p2 = p2;
-      p0_min_share = c.p0_min_share;
-      p0_min_bps = c.p0_min_bps;
-      ecn_mode = mode;
-    }
+    record c { enabled = enabled; max_queue_p0 = p0; max_queue_p1 = p1; max_queue_p2 = p2; ecn_mode = mode }
 
 -- the Rust's `CongestionConfig::disabled()`
 abbrev pub without_control : CongestionConfig

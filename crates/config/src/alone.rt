@@ -36,7 +36,7 @@ impl<M: Copy> Alone<M> {
     {
         Alone {
             ledger: self.ledger.resumed(calls),
-            inner: self.inner,
+            ..self
         }
     }
 

@@ -4,7 +4,7 @@ ghost use Rattle.config.specs.Refusal.{verdict_of};
 ghost use Rattle.config.specs.Config.{class_number, class_of, setting_number, fails_by, defaults, without_control, failed_check, not_in_open_closed, not_in_open, not_in_closed, factor_out, rates_beyond, floats_beyond, queues_beyond, limit_beyond, settings_checks, making_checks};
 
 use crate::ledger::check_time;
-use crate::refusal::{LARGEST_RATE, Refusal};
+use crate::refusal::{LARGEST_RATE, Refusal, error_if};
 use numeric::float::is_finite_f32;
 
 // Explicit congestion notification: off, used where it is to be had, or required.
@@ -66,11 +66,11 @@ pub enum InvalidSetting {
 }
 
 impl InvalidSetting {
-    // Whether this check fails.
+    // Refuses the settings where this check fails.
     fn when(self, fails: bool) -> Result<(), InvalidSetting>
         ensures { result ≡ fails_by self fails }
     {
-        if fails { Err(self) } else { Ok(()) }
+        error_if(fails, self)
     }
 }
 
@@ -163,6 +163,7 @@ impl CongestionConfig {
     }
 
     // Which of the seven checks fails first, if one does. A NaN passes them.
+    #[tactic(auto, unfolding(crate::specs::Config::failed_check))]
     pub fn validate(self) -> Result<(), InvalidSetting>
         ensures { result ≡ failed_check self }
     {
@@ -185,7 +186,6 @@ impl CongestionConfig {
     }
 
     // The checks of making something with the settings at a time: 1, 2 and 7.
-    #[tactic(auto, unfolding(crate::specs::Refusal::verdict_of))]
     pub fn check_making(self, time: u64) -> Result<(), Refusal>
         ensures { result ≡ verdict_of (making_checks self time) }
     {
@@ -193,6 +193,7 @@ impl CongestionConfig {
         check_time(time)
     }
 
+    #[tactic(auto, unfolding(crate::specs::Config::rates_beyond))]
     fn rates_beyond(self) -> bool
         ensures { result ≡ rates_beyond self }
     {
@@ -203,6 +204,7 @@ impl CongestionConfig {
             || LARGEST_RATE < self.p0_min_bps
     }
 
+    #[tactic(auto, unfolding(crate::specs::Config::floats_beyond))]
     fn floats_beyond(self) -> bool
         ensures { result ≡ floats_beyond self }
     {
@@ -213,6 +215,7 @@ impl CongestionConfig {
             || !is_finite_f32(self.p0_min_share)
     }
 
+    #[tactic(auto, unfolding(crate::specs::Config::queues_beyond))]
     fn queues_beyond(self) -> bool
         ensures { result ≡ queues_beyond self }
     {
@@ -231,21 +234,26 @@ impl Default for CongestionConfig {
     }
 }
 
-// Whether a factor lies outside (0, 1].
-fn not_in_open_closed(x: f32) -> bool
-    ensures { result ≡ not_in_open_closed x }
-{
-    x <= 0.0 || x > 1.0
-}
-
 // Whether a factor that is given to a call lies outside (0, 1]; a NaN does.
+#[tactic(auto, unfolding(crate::specs::Config::factor_out))]
 pub fn factor_out(factor: f32) -> bool
     ensures { result ≡ factor_out factor }
 {
     !(factor > 0.0 && factor <= 1.0)
 }
 
+// Stays: three tests of a range, which differ in their comparisons alone: one with flags for its ends would be longer, and std's `contains` is
+// false at a NaN, which has to pass.
+// Whether a factor lies outside (0, 1].
+#[tactic(auto, unfolding(crate::specs::Config::not_in_open_closed))]
+fn not_in_open_closed(x: f32) -> bool
+    ensures { result ≡ not_in_open_closed x }
+{
+    x <= 0.0 || x > 1.0
+}
+
 // Whether a factor lies outside (0, 1).
+#[tactic(auto, unfolding(crate::specs::Config::not_in_open))]
 fn not_in_open(x: f32) -> bool
     ensures { result ≡ not_in_open x }
 {
@@ -253,6 +261,7 @@ fn not_in_open(x: f32) -> bool
 }
 
 // Whether a share lies outside [0, 1].
+#[tactic(auto, unfolding(crate::specs::Config::not_in_closed))]
 fn not_in_closed(x: f32) -> bool
     ensures { result ≡ not_in_closed x }
 {
@@ -260,8 +269,9 @@ fn not_in_closed(x: f32) -> bool
 }
 
 // Whether a queue limit lies outside 1 to `most`.
+#[tactic(auto, unfolding(crate::specs::Config::limit_beyond))]
 fn limit_beyond(limit: usize, most: usize) -> bool
     ensures { result ≡ limit_beyond limit most }
 {
-    limit < 1 || most < limit
+    !(1..=most).contains(&limit)
 }

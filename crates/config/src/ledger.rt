@@ -80,8 +80,8 @@ impl Ledger {
         ensures { result ≡ moved self time }
     {
         Ledger {
-            calls: self.calls.saturating_add(1),
             last: time,
+            ..self.counted()
         }
     }
 

@@ -1,5 +1,5 @@
 // Why a call is turned down, and the number of each reason.
-ghost use Rattle.std.specs.Prelude.{◌≡◌, get_or};
+ghost use Rattle.std.specs.Prelude.{◌≡◌, cond, get_or, Ok, Err};
 ghost use Rattle.config.specs.Refusal.{number_of, when_result, numbers, accepted};
 
 // The number of an accepted call.
@@ -31,12 +31,19 @@ pub enum Refusal {
     TableFull = 14,
 }
 
+// An error where a test says so.
+pub(crate) fn error_if<E: Drop>(test: bool, error: E) -> Result<(), E>
+    ensures { result ≡ cond test (Err error) (Ok tt) }
+{
+    if test { Err(error) } else { Ok(()) }
+}
+
 impl Refusal {
     // Turns the call down where the reason applies.
     pub fn when(self, applies: bool) -> Result<(), Refusal>
         ensures { result ≡ when_result self applies }
     {
-        if applies { Err(self) } else { Ok(()) }
+        error_if(applies, self)
     }
 }
 
