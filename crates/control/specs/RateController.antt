@@ -1,7 +1,7 @@
 -- The sending rate (document 01, rate_controller.rs): additive increase, multiplicative decrease. Definitions only.
 use Rattle.std.specs.Prelude.{ℕ, ◌+◌, ◌-◌, min, max, true, false, cond, ltb, eqb, Float}
 use Rattle.config.specs.declared.config.CongestionConfig.{CongestionConfig}
-use Rattle.numeric.specs.Float.{zero32, scaled}
+use Rattle.numeric.specs.Float.{scaled}
 use Rattle.numeric.specs.Integer.{up_to_u64, next}
 use Rattle.control.specs.declared.rate_controller.Applied.{Applied}
 use Rattle.control.specs.declared.rate_controller.RateController.{RateController}
@@ -73,17 +73,6 @@ params_of c =
       ai_step = c.ai_step_bps;
       md_hard = c.md_factor_hard;
       md_soft = c.md_factor_soft;
-    }
-
--- parameters that were turned down
-abbrev pub no_params : RateParams
-no_params =
-    record {
-      min_rate = 0;
-      max_rate = 0;
-      ai_step = 0;
-      md_hard = zero32;
-      md_soft = zero32;
     }
 
 abbrev pub controller_of : ℕ → ℕ → RateControllerMetrics → RateController

@@ -49,24 +49,6 @@ scorer_config_of c =
       eagain_is_hard = c.eagain_is_hard;
     }
 
--- settings that were turned down
-abbrev pub no_scorer_config : ScorerConfig
-no_scorer_config =
-    record {
-      tick_interval = 0;
-      decay = zero32;
-      decrease_threshold = zero32;
-      increase_threshold = zero32;
-      hysteresis = zero32;
-      cooldown = 0;
-      stable_window = 0;
-      eagain_impulse = zero32;
-      rtt_impulse = zero32;
-      nack_impulse = zero32;
-      nack_threshold = 0;
-      eagain_is_hard = false;
-    }
-
 -- ---- pending signals
 
 abbrev pub pending_of : ℕ → Bool → ℕ → ℕ → PendingSignals

@@ -2,7 +2,7 @@
 #![tactic(auto, unfolding(crate::specs::RateController::decreased, crate::specs::RateController::gained_from, crate::specs::RateController::lost_from, crate::specs::RateController::softened, crate::specs::RateController::hardened, crate::specs::RateController::reached_by, crate::specs::RateController::with_params, crate::specs::RateController::changed_to, crate::specs::RateController::applied, crate::specs::RateController::rate_set))]
 
 ghost use Rattle.std.specs.Prelude.{◌≡◌};
-ghost use Rattle.control.specs.RateController.{decreased, new_metrics, gained_from, lost_from, softened, hardened, reached_by, params_of, no_params, held_rate, with_params, changed_to, applied, rate_set};
+ghost use Rattle.control.specs.RateController.{decreased, new_metrics, gained_from, lost_from, softened, hardened, reached_by, params_of, held_rate, with_params, changed_to, applied, rate_set};
 
 use crate::scorer::CongestionAction;
 use config::config::CongestionConfig;
@@ -68,18 +68,6 @@ impl RateParams {
             ai_step: config.ai_step_bps,
             md_hard: config.md_factor_hard,
             md_soft: config.md_factor_soft,
-        }
-    }
-
-    pub(crate) fn zero() -> RateParams
-        ensures { result ≡ no_params }
-    {
-        RateParams {
-            min_rate: 0,
-            max_rate: 0,
-            ai_step: 0,
-            md_hard: 0.0,
-            md_soft: 0.0,
         }
     }
 

@@ -2,7 +2,7 @@
 #![tactic(auto, unfolding(crate::specs::Scorer::loss_impulse, crate::specs::Scorer::added_if, crate::specs::Scorer::impulse_of, crate::specs::Scorer::tick_measured, crate::specs::Scorer::congestion_measured, crate::specs::Scorer::recovery_measured, crate::specs::Scorer::congested_for, crate::specs::Scorer::on_eagain, crate::specs::Scorer::on_rtt_inflated, crate::specs::Scorer::on_nack, crate::specs::Scorer::on_loss, crate::specs::Scorer::in_cooldown, crate::specs::Scorer::can_increase, crate::specs::Scorer::congested_at, crate::specs::Scorer::evaluated_stable, crate::specs::Scorer::evaluated_congested, crate::specs::Scorer::evaluated, crate::specs::Scorer::ticked))]
 
 ghost use Rattle.std.specs.Prelude.{◌≡◌};
-ghost use Rattle.control.specs.Scorer.{state_number, action_number, scorer_config_of, no_scorer_config, no_pending, loss_impulse, added_if, impulse_of, tick_measured, congestion_measured, recovery_measured, congested_for, new_scorer, on_eagain, on_rtt_inflated, on_nack, on_loss, in_cooldown, can_increase, congested_at, evaluated_stable, evaluated_congested, evaluated, ticked};
+ghost use Rattle.control.specs.Scorer.{state_number, action_number, scorer_config_of, no_pending, loss_impulse, added_if, impulse_of, tick_measured, congestion_measured, recovery_measured, congested_for, new_scorer, on_eagain, on_rtt_inflated, on_nack, on_loss, in_cooldown, can_increase, congested_at, evaluated_stable, evaluated_congested, evaluated, ticked};
 
 use config::config::CongestionConfig;
 use numeric::float::{clamp_f32, f32_of_u8, f32_of_u32};
@@ -78,25 +78,6 @@ impl ScorerConfig {
             nack_impulse: f32_of_u8(config.nack_impulse),
             nack_threshold: config.nack_rate_threshold,
             eagain_is_hard: config.eagain_is_hard,
-        }
-    }
-
-    pub(crate) fn zero() -> ScorerConfig
-        ensures { result ≡ no_scorer_config }
-    {
-        ScorerConfig {
-            tick_interval: 0,
-            decay: 0.0,
-            decrease_threshold: 0.0,
-            increase_threshold: 0.0,
-            hysteresis: 0.0,
-            cooldown: 0,
-            stable_window: 0,
-            eagain_impulse: 0.0,
-            rtt_impulse: 0.0,
-            nack_impulse: 0.0,
-            nack_threshold: 0,
-            eagain_is_hard: false,
         }
     }
 }
