@@ -75,9 +75,18 @@ pub fn hash_bytes(bytes: &[u8]) -> u64
         hash = join_swapped(hash, bytes[i + 7]);
         i += 8;
     }
-    bytes[eights..]
-        .iter()
-        .fold(hash, |hash, byte| join(hash, *byte))
+    join_rest(hash, &bytes[eights..])
+}
+
+// A hash with every byte more.
+fn join_rest(before: u64, bytes: &[u8]) -> u64
+    ensures { result ≡ joined_all before bytes.now }
+{
+    let mut hash = before;
+    for byte in bytes {
+        hash = join(hash, *byte);
+    }
+    hash
 }
 
 // A hash with one byte more.

@@ -4,6 +4,7 @@
     unfolding(
         config::specs::Refusal::verdict_of,
         crate::specs::Coalescing::joined,
+        crate::specs::Coalescing::joined_all,
         crate::specs::Coalescing::found,
         crate::specs::Coalescing::inserted,
         crate::specs::Coalescing::popped_front,
