@@ -1,6 +1,6 @@
 -- FNV-1a, 64 bits (the FNV reference by Fowler, Noll and Vo; document 01, coalescing.rs), the keys made with it, and the
 -- coalescing queue. Definitions only.
-use Rattle.std.specs.Prelude.{ℕ, ◌+◌, ◌-◌, ◌*◌, ◌%◌, ◌^◌, Bool, false, cond, List, [], ◌∷◌, eqb, ltb, get_or, set}
+use Rattle.std.specs.Prelude.{ℕ, ◌+◌, ◌-◌, ◌*◌, ◌%◌, ◌^◌, Bool, cond, ◌&&◌, List, [], ◌∷◌, eqb, ltb, get_or, set}
 use Rattle.std.specs.Int.Bits.{bit_xor}
 use Rattle.config.specs.declared.config.Priority.TheVariants.{P2}
 use Rattle.numeric.specs.Integer.{up_to_u64, next}
@@ -53,7 +53,7 @@ abbrev pub new_queue : ℕ → CoalescingQueue
 new_queue limit = queue_of (new_ring limit) 0
 
 abbrev pub same_key : InstanceKey → InstanceKey → Bool
-same_key x y = cond (eqb x.topic_hash y.topic_hash) (eqb x.key_hash y.key_hash) false
+same_key x y = eqb x.topic_hash y.topic_hash && eqb x.key_hash y.key_hash
 
 -- whether the entry so many places behind the head has the key
 abbrev pub hit : Ring → List ℕ → ℕ → InstanceKey → ℕ → Bool

@@ -745,7 +745,6 @@ pub struct WriterPacerAlone {
 
 impl WriterPacerAlone {
     // A pacer with empty queues and a full bucket; its first rate is 1 to 1,000,000,000.
-    #[tactic(auto, unfolding(crate::specs::WriterPacerAlone::made_alone))]
     pub fn with_rate(
         time: u64,
         config: CongestionConfig,

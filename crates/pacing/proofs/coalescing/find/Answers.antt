@@ -1,6 +1,5 @@
-use mathlib.Core.Path.{sym, refl}
+use mathlib.Core.Path.{sym}
 use native.Mathlib.Omega.{arith}
-use borrow.Author.Tests.{eq-eqb}
 use Rattle.numeric.proofs.Search.{first-none, first_is}
 use Rattle.pacing.specs.Coalescing.{found}
 use Rattle.pacing.proofs.coalescing.find.Goals as goal
@@ -13,4 +12,4 @@ pub returns-then-eq : goal.returns-then-eq
 unfolding found
 returns-then-eq c = let l = c.loop-k in
     sym (first_is _ _ l.k (omega arith) l.invariant.1
-    (rw (← c.slot_at.ensures, ← c.look_at-entry.ensures, c.if-eq.ensures, eq-eqb _ _ refl, eq-eqb _ _ refl)))
+    (rw (← c.slot_at.ensures, ← c.look_at-entry.ensures) (sym c.if-eq.ensures)))
