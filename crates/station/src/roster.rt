@@ -103,12 +103,12 @@ impl Roster {
     }
 
     // New budgets reach the pacers.
+    // Stays: an index. What is written through `iter_mut` of a part of the array is not seen in the roster, and no proof closes.
     pub(crate) fn budget_all(mut self, config: PacerConfig, time: u64, table: WriterTable) -> Roster
         ensures { result ≡ budgeted_all config time table self }
     {
-        let n = taken(self.count);
-        for writer in self.writers[..n].iter_mut() {
-            *writer = writer.budget(config, time, table);
+        for k in 0..taken(self.count) {
+            self.writers[k] = self.writers[k].budget(config, time, table);
         }
         self
     }
