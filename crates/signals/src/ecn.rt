@@ -192,8 +192,8 @@ impl EcnProcessor {
     fn check_window(self) -> bool
         ensures { result ≡ window_signals self }
     {
-        let ce = numeric::float::f64_of_u64(self.ce_in_window as u64);
-        let packets = numeric::float::f64_of_u64(self.packets_in_window as u64);
+        let ce = numeric::float::f64_of_u64(u64::from(self.ce_in_window));
+        let packets = numeric::float::f64_of_u64(u64::from(self.packets_in_window));
         ce / packets >= 0.01
     }
 

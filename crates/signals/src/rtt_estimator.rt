@@ -69,7 +69,7 @@ impl RttEstimator {
     pub fn update_in_place(&mut self, time: u64, sample_ms: f32)
         ensures { self.new ≡ updated self.old time sample_ms }
     {
-        *self = (*self).update(time, sample_ms);
+        *self = self.update(time, sample_ms);
     }
 
     // The same by way of the lent form: the estimator is lent for the call, and what it then is comes back.
