@@ -19,13 +19,6 @@ use Rattle.pacing.specs.Records.{limit_in}
 use Rattle.pacing.specs.declared.pool.Limits.{Limits}
 use Rattle.pacing.proofs.Slots.{queue_number}
 
--- a turn's store takes the copy of i bytes to the copy of one more
-pub turn : (s d : List ℕ) (i : ℕ) → i < length s → i < length d → set (take i s ++ drop i d) i (get_or s i 0) ≡ take (suc i) s ++ drop (suc i) d
-turn [] d i h k = absurd (omega arith)
-turn (x ∷ xs) [] i h k = absurd (omega arith)
-turn (x ∷ xs) (y ∷ ys) zero h k = refl
-turn (x ∷ xs) (y ∷ ys) (suc i) h k = ap (λ (l : List ℕ). x ∷ l) (turn xs ys i (omega arith) (omega arith))
-
 -- what is left behind n bytes of a part of w
 drop_part : (n w : ℕ) (l : List ℕ) → n ≤ w → w ≤ length l → drop n (take w l) ++ drop w l ≡ drop n l
 drop_part n w l h k =

@@ -399,10 +399,10 @@ module _ (m : Limits) (i : ℕ) (s : Parts) (b : Book) (ok : Matches m i s b) (k
   test-is = ap₂ ltb (sym found-is) (sym (count_is P2))
 
   -- the pacer with another P2 queue
-  abbrev withP2 : CoalescingQueue → PacerCore
-  withP2 q = with_queues (numbered s.core) (record { p0 = s.core.queues.p0; p1 = s.core.queues.p1; p2 = q })
+  abbrev with_p2 : CoalescingQueue → PacerCore
+  with_p2 q = with_queues (numbered s.core) (record { p0 = s.core.queues.p0; p1 = s.core.queues.p1; p2 = q })
 
-  p2-alone : (q : CoalescingQueue) (d : Priority) → class_number d ≢ 2 → ring_of (withP2 q).queues d ≡ ring_in d
+  p2-alone : (q : CoalescingQueue) (d : Priority) → class_number d ≢ 2 → ring_of (with_p2 q).queues d ≡ ring_in d
   p2-alone q P0 ne = refl
   p2-alone q P1 ne = refl
   p2-alone q P2 ne = absurd (ne refl)
@@ -424,7 +424,7 @@ module _ (m : Limits) (i : ℕ) (s : Parts) (b : Book) (ok : Matches m i s b) (k
       kept_matches m i s b ok P2 key bytes n (kept_as Replaced (slot_at (ring_in P2) place) s.core.queues.p2.next_sequence) refl
       (subst (λ (x : ℕ). slot_at (ring_in P2) place < x) (ok.limits P2) (slot-below (ring_in P2) place (ok.rings P2)))
       ok.next_p2
-      (withP2 (queue_of (ring_in P2) (next s.core.queues.p2.next_sequence)))
+      (with_p2 (queue_of (ring_in P2) (next s.core.queues.p2.next_sequence)))
       (ok.rings P2) (ok.limits P2)
       (p2-alone (queue_of (ring_in P2) (next s.core.queues.p2.next_sequence)))
       (replaced-list place is test below) after_next (ap next ok.next_p2)
@@ -443,7 +443,7 @@ module _ (m : Limits) (i : ℕ) (s : Parts) (b : Book) (ok : Matches m i s b) (k
   joined-matches test =
       kept_matches m i s b ok P2 key bytes n (kept_as (joins (ring_in P2)) (next_slot (ring_in P2)) s.core.queues.p2.next_sequence) (joins_in (ring_in P2)) (next-below P2)
       ok.next_p2
-      (withP2 (queue_of (pushed (ring_in P2)) (next s.core.queues.p2.next_sequence)))
+      (with_p2 (queue_of (pushed (ring_in P2)) (next s.core.queues.p2.next_sequence)))
       (sound-pushed (ring_in P2) (ok.rings P2)) (limit_roomy (ring_in P2) ∙ ok.limits P2)
       (p2-alone (queue_of (pushed (ring_in P2)) (next s.core.queues.p2.next_sequence)))
       (joined-list test) after_next (ap next ok.next_p2)

@@ -45,7 +45,7 @@ module _ (bytes rate : ℕ) (P : 0 < rate) (R : rate ≤ 2 ^ 53) (N : bytes ≤ 
   unfolding wait_of
   wait-is = nanos_of_value (div binary64 (of_int binary64 (pos bytes)) (of_int binary64 (pos rate))) (quotient bytes rate) unity unity_pos quotient-has quotient-small
 
-  -- |waitOf - bytes * 10 ^ 9 / rate| ≤ 1 / 2
+  -- |wait_of - bytes * 10 ^ 9 / rate| ≤ 1 / 2
   pub wait_half : Half (wait_of bytes rate) (bytes * 1000000000) rate
   wait_half =
       within_nearest (2 ^ 53) 1000000000 bytes rate unity (quotient bytes rate) (wait_of bytes rate) unity_pos (omega arith) quotient-near

@@ -264,14 +264,12 @@ impl PacerCore {
         if ring.count < ring.limit {
             return self.place_in(Priority::P0, sequence);
         }
-        Enqueued {
-            core: self,
-            kept: Kept {
-                fate: Fate::Full,
-                slot: 0,
-                sequence,
-            },
-        }
+        let kept = Kept {
+            fate: Fate::Full,
+            slot: 0,
+            sequence,
+        };
+        Enqueued { core: self, kept }
     }
 
     // P1 drops its oldest where it is full.
