@@ -17,14 +17,7 @@ pub fn pacer_of(word: u64) -> u8 {
 
 // The class of the record; every number above 1 is P2.
 pub fn class_of(word: u64) -> Priority {
-    let class = word / 256 % 16;
-    if class == 0 {
-        return Priority::P0;
-    }
-    if class == 1 {
-        return Priority::P1;
-    }
-    Priority::P2
+    Priority::try_from((word / 256 % 16) as u8).unwrap_or(Priority::P2)
 }
 
 // The bytes of the record.
@@ -39,7 +32,7 @@ pub fn key_of(word: u64) -> InstanceKey {
 
 // The time of the call, after the one before it.
 pub fn time_of(word: u64, before: u64) -> u64 {
-    numeric::integer::saturating_add(before, word / 17592186044416)
+    before.saturating_add(word / 17592186044416)
 }
 
 // Where the record of call k begins in the bytes, so that records of one length differ.
@@ -52,23 +45,14 @@ pub fn mix(sum: u64, x: u64) -> u64 {
     ((sum << 7) ^ (sum >> 57)) ^ x
 }
 
-// A byte in 64 bits.
-fn wide(x: u8) -> u64 {
-    x as u64
-}
-
 // The checksum with an answer more.
 pub fn mix_answer(sum: u64, answer: u8) -> u64 {
-    mix(sum, wide(answer))
+    mix(sum, u64::from(answer))
 }
 
 // The last byte of a record that is shown; 0 where it is empty.
 fn last_of(shown: &[u8]) -> u64 {
-    if 0 < shown.len() {
-        wide(shown[shown.len() - 1])
-    } else {
-        0
-    }
+    shown.last().map_or(0, |byte| u64::from(*byte))
 }
 
 // The checksum with a send attempt more: what it came to, and the last byte of what is shown.
@@ -76,12 +60,11 @@ pub fn mix_action(sum: u64, action: SendAction, shown: &[u8]) -> u64 {
     match action {
         SendAction::Send {
             class,
-            slot: _,
             sequence,
             length,
-            forced: _,
+            ..
         } => mix(
-            mix(mix(mix_answer(sum, class.number()), sequence), length),
+            mix(mix(mix_answer(sum, u8::from(class)), sequence), length),
             last_of(shown),
         ),
         SendAction::Empty => mix(sum, 3),

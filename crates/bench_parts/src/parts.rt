@@ -1,9 +1,10 @@
 // A list of calls on the parts of four pacers: cores, words and the ledger are locals, and nothing larger than a core is moved.
 use bench::call;
+use config::answer::Numbered;
 use config::config::CongestionConfig;
 use config::ledger::Ledger;
 use pacing::pool::Limits;
-use pacing::writer_pacer::{Handed, PacerCore, SendTried};
+use pacing::writer_pacer::{Handed, PacerCore, SendAction, SendTried};
 use pacing::{pool, writer_pacer};
 
 // The slots that a pool of four pacers has.
@@ -26,12 +27,12 @@ fn hand_in(
     let sample = pool::shown(bytes, call::start_of(k), call::length_of(word));
     let slots = slots_of_four(limits);
     let length = sample.len();
-    let answer = writer_pacer::check_hand_in(ledger, true, slots, pool.len(), time, length);
+    let verdict = writer_pacer::check_hand_in(ledger, true, slots, pool.len(), time, length);
     let i = call::pacer_of(word);
     let class = call::class_of(word);
     let key = call::key_of(word);
     writer_pacer::hand_in(
-        answer, ledger, core, limits, words, pool, time, i, class, key, sample,
+        verdict, ledger, core, limits, words, pool, time, i, class, key, sample,
     )
 }
 
@@ -45,8 +46,8 @@ fn send(
     time: u64,
     i: u8,
 ) -> SendTried {
-    let answer = writer_pacer::check_send(ledger, slots_of_four(limits), pool_length, time);
-    writer_pacer::send(answer, true, ledger, core, words, time, i)
+    let verdict = writer_pacer::check_send(ledger, slots_of_four(limits), pool_length, time);
+    writer_pacer::send(verdict, true, ledger, core, words, time, i)
 }
 
 // The checksum of a list of calls on four new pacers of one rate.
@@ -58,9 +59,8 @@ pub fn run(list: &[u64], pool: &mut [u8], bytes: &[u8], rate_bps: u32) -> u64 {
     let mut ledger = Ledger::new(0);
     let mut time: u64 = 0;
     let mut sum: u64 = 0;
-    let mut k: usize = 0;
-    while k < list.len() {
-        let word = list[k];
+    for (k, word) in list.iter().enumerate() {
+        let word = *word;
         time = call::time_of(word, time);
         let i = call::pacer_of(word);
         let at = (i % 4) as usize;
@@ -69,25 +69,20 @@ pub fn run(list: &[u64], pool: &mut [u8], bytes: &[u8], rate_bps: u32) -> u64 {
             let handed = hand_in(
                 word, k, ledger, before, limits, &mut words, pool, bytes, time,
             );
-            let moved = handed.ledger;
-            let after = handed.core;
-            ledger = moved;
-            cores[at] = after;
-            sum = call::mix_answer(sum, handed.answer);
+            ledger = handed.ledger;
+            cores[at] = handed.core;
+            sum = call::mix_answer(sum, handed.answer.number());
         } else {
             let tried = send(ledger, before, limits, &mut words, pool.len(), time, i);
-            let moved = tried.ledger;
-            let after = tried.core;
-            let action = tried.action;
-            ledger = moved;
-            cores[at] = after;
+            let action = tried.answer.unwrap_or(SendAction::Empty);
+            ledger = tried.ledger;
+            cores[at] = tried.core;
             sum = call::mix_action(
-                call::mix_answer(sum, tried.answer),
+                call::mix_answer(sum, tried.answer.number()),
                 action,
                 writer_pacer::sent_bytes(limits, i, action, pool),
             );
         }
-        k += 1;
     }
     sum
 }

@@ -67,8 +67,7 @@ pub fn entry_at(at: u32, class: Priority, slot: u16) -> usize
     ensures upper_bound { result < 5000000000 }
 {
     match class {
-        Priority::P0 => at as usize + slot as usize * 2,
-        Priority::P1 => at as usize + slot as usize * 2,
+        Priority::P0 | Priority::P1 => at as usize + slot as usize * 2,
         Priority::P2 => at as usize + slot as usize * 4,
     }
 }
@@ -81,12 +80,7 @@ pub fn look_at(words: &[u64], at: u32, class: Priority, slot: u16) -> Entry
     let sequence = get(words, place);
     let length = get(words, place + 1);
     match class {
-        Priority::P0 => Entry {
-            sequence,
-            length,
-            key: InstanceKey::new(0, 0),
-        },
-        Priority::P1 => Entry {
+        Priority::P0 | Priority::P1 => Entry {
             sequence,
             length,
             key: InstanceKey::new(0, 0),
@@ -104,20 +98,10 @@ pub fn enter(words: &mut [u64], at: u32, class: Priority, slot: u16, entry: Entr
     ensures { words.new ≡ entered words.old at class slot entry }
 {
     let place = entry_at(at, class, slot);
-    match class {
-        Priority::P0 => {
-            put(words, place, entry.sequence);
-            put(words, place + 1, entry.length);
-        }
-        Priority::P1 => {
-            put(words, place, entry.sequence);
-            put(words, place + 1, entry.length);
-        }
-        Priority::P2 => {
-            put(words, place, entry.sequence);
-            put(words, place + 1, entry.length);
-            put(words, place + 2, entry.key.topic_hash);
-            put(words, place + 3, entry.key.key_hash);
-        }
+    put(words, place, entry.sequence);
+    put(words, place + 1, entry.length);
+    if matches!(class, Priority::P2) {
+        put(words, place + 2, entry.key.topic_hash);
+        put(words, place + 3, entry.key.key_hash);
     }
 }

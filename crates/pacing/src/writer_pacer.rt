@@ -771,7 +771,7 @@ impl WriterPacerAlone {
 
     // A record of a class; P2's go under the key of the topic "default".
     pub fn enqueue(
-        self,
+        mut self,
         time: u64,
         pool: &mut [u8],
         class: Priority,
@@ -780,12 +780,16 @@ impl WriterPacerAlone {
         ensures value { result ≡ handed_alone self (length pool.old) time class default_key (length sample.now) }
         ensures pool_after { pool.new ≡ pool_handed self pool.old time class default_key sample.now }
     {
-        self.enqueue_as(time, pool, class, InstanceKey::keyless(b"default"), sample)
+        let answer = self.hand_in(time, pool, class, InstanceKey::keyless(b"default"), sample);
+        Left {
+            state: self,
+            answer,
+        }
     }
 
     // A P2 record under a key.
     pub fn enqueue_p2_keyed(
-        self,
+        mut self,
         time: u64,
         pool: &mut [u8],
         key: InstanceKey,
@@ -794,29 +798,14 @@ impl WriterPacerAlone {
         ensures value { result ≡ handed_alone self (length pool.old) time P2 key (length sample.now) }
         ensures pool_after { pool.new ≡ pool_handed self pool.old time P2 key sample.now }
     {
-        self.enqueue_as(time, pool, Priority::P2, key, sample)
-    }
-
-    // A record of a class; the key is P2's.
-    fn enqueue_as(
-        mut self,
-        time: u64,
-        pool: &mut [u8],
-        class: Priority,
-        key: InstanceKey,
-        sample: &[u8],
-    ) -> Left<WriterPacerAlone, Fate>
-        ensures value { result ≡ handed_alone self (length pool.old) time class key (length sample.now) }
-        ensures pool_after { pool.new ≡ pool_handed self pool.old time class key sample.now }
-    {
-        let answer = self.hand_in(time, pool, class, key, sample);
+        let answer = self.hand_in(time, pool, Priority::P2, key, sample);
         Left {
             state: self,
             answer,
         }
     }
 
-    // The same in place: turned down it is left as it was.
+    // A record of a class; the key is P2's. In place: turned down it is left as it was.
     fn hand_in(
         &mut self,
         time: u64,
