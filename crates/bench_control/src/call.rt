@@ -5,25 +5,32 @@ use control::budget_allocator::{WriterInfo, WriterTable};
 use control::controller::ControllerCore;
 use numeric::float::bits_of_f32;
 
-// The kinds of calls; every other is NACKs.
-pub const TICK: u64 = 0;
-
-pub const SET_RATE: u64 = 1;
-
-pub const SAMPLE: u64 = 2;
-
-pub const TOS: u64 = 3;
-
-pub const REGISTER: u64 = 4;
-
-pub const EAGAIN: u64 = 5;
-
-pub const SHOW: u64 = 6;
+// The kinds of calls.
+#[derive(Clone, Copy, Debug, PartialEq, Eq)]
+pub enum Kind {
+    Tick,
+    SetRate,
+    Sample,
+    Tos,
+    Register,
+    Eagain,
+    Show,
+    Nacks,
+}
 
 // A word has, from its low bits on: 4 bits for the kind, 6 for the writer or the peer, 30 for the amount and 24 for the
-// time by which the call is later than the one before it, in units of 16 nanoseconds.
-pub fn kind_of(word: u64) -> u64 {
-    word % 16
+// time by which the call is later than the one before it, in units of 16 nanoseconds. Every number of a kind from 7 on is NACKs.
+pub fn kind_of(word: u64) -> Kind {
+    match word % 16 {
+        0 => Kind::Tick,
+        1 => Kind::SetRate,
+        2 => Kind::Sample,
+        3 => Kind::Tos,
+        4 => Kind::Register,
+        5 => Kind::Eagain,
+        6 => Kind::Show,
+        _ => Kind::Nacks,
+    }
 }
 
 // The writer or the peer of the call, one of 64.
@@ -38,14 +45,7 @@ pub fn amount_of(word: u64) -> u32 {
 
 // The class of a new writer; every number above 1 is P2.
 pub fn class_of(word: u64) -> Priority {
-    let class = word / 1024 % 4;
-    if class == 0 {
-        return Priority::P0;
-    }
-    if class == 1 {
-        return Priority::P1;
-    }
-    Priority::P2
+    Priority::try_from((word / 1024 % 4) as u8).unwrap_or(Priority::P2)
 }
 
 pub fn tos_of(word: u64) -> u8 {
@@ -66,7 +66,7 @@ pub fn factor_of(word: u64) -> f32 {
 
 // The time of the call, after the one before it.
 pub fn time_of(word: u64, before: u64) -> u64 {
-    numeric::integer::saturating_add(before, word / 1099511627776 * 16)
+    before.saturating_add(word / 1099511627776 * 16)
 }
 
 // The defaults, or other settings, with marks looked at; two, so that no setting is a constant to the compiler.
@@ -105,14 +105,9 @@ fn other_than(config: CongestionConfig) -> CongestionConfig {
     }
 }
 
-// A number of 32 bits in 64.
-fn wide(x: u32) -> u64 {
-    x as u64
-}
-
 // The checksum with a number of 32 bits more.
 pub fn mix_u32(sum: u64, x: u32) -> u64 {
-    mix(sum, wide(x))
+    mix(sum, u64::from(x))
 }
 
 // The checksum with a float more.
@@ -122,7 +117,7 @@ pub fn mix_f32(sum: u64, x: f32) -> u64 {
 
 // The checksum with a flag more, such as a signal.
 pub fn mix_flag(sum: u64, flag: bool) -> u64 {
-    if flag { mix(sum, 1) } else { mix(sum, 0) }
+    mix(sum, u64::from(flag))
 }
 
 // The checksum with the rate and the score that a tick left.
@@ -137,14 +132,9 @@ fn mix_update(sum: u64, row: WriterInfo) -> u64 {
 
 // The checksum with every writer's update.
 pub fn mix_updates(sum: u64, table: WriterTable) -> u64 {
-    let n = table.count() as usize;
-    let rows = table.rows();
     let mut total = sum;
-    let mut k: usize = 0;
-    while k < n {
-        let row = rows[k % 64];
-        total = mix_update(total, row);
-        k += 1;
+    for row in table.rows().iter().take(usize::from(table.count())) {
+        total = mix_update(total, *row);
     }
     total
 }

@@ -1,7 +1,6 @@
 // What a list leaves, joined to its checksum at the end: so the compiler can leave out no count.
 use crate::call::{mix_f32, mix_flag, mix_u32};
 use bench::call::{mix, mix_answer};
-use config::moment::Moment;
 use control::budget_allocator::BudgetAllocator;
 use control::controller::ControllerCore;
 use control::rate_controller::RateController;
@@ -9,8 +8,9 @@ use control::scorer::{CongestionScorer, PendingSignals, Phase, ScorerMetrics, Si
 use signals::ecn::EcnProcessor;
 use signals::rtt_estimator::RttEstimator;
 
-fn mix_moment(sum: u64, moment: Moment) -> u64 {
-    mix(mix_flag(sum, moment.is_known()), moment.time_or_0())
+// Whether a time is known, and the time or 0.
+fn mix_moment(sum: u64, moment: Option<u64>) -> u64 {
+    mix(mix_flag(sum, moment.is_some()), moment.unwrap_or(0))
 }
 
 pub fn mix_estimator(sum: u64, estimator: RttEstimator) -> u64 {
@@ -31,10 +31,8 @@ pub fn mix_processor(sum: u64, processor: EcnProcessor) -> u64 {
 }
 
 fn mix_phase(sum: u64, phase: Phase) -> u64 {
-    let state = phase.state;
-    let until = phase.cooldown_until;
-    let since = phase.stable_since;
-    mix_moment(mix_moment(mix_answer(sum, state.number()), until), since)
+    let sum = mix_moment(mix_answer(sum, u8::from(phase.state)), phase.cooldown_until);
+    mix_moment(sum, phase.stable_since)
 }
 
 fn mix_pending(sum: u64, pending: PendingSignals) -> u64 {

@@ -12,13 +12,10 @@ pub fn samples(list: &[u64]) -> u64 {
     let mut estimator = RttEstimator::new(100.0);
     let mut time: u64 = 0;
     let mut sum: u64 = 0;
-    let mut k: usize = 0;
-    while k < list.len() {
-        let word = list[k];
-        time = call::time_of(word, time);
-        estimator = estimator.update(time, call::sample_of(word));
+    for word in list {
+        time = call::time_of(*word, time);
+        estimator = estimator.update(time, call::sample_of(*word));
         sum = call::mix_f32(sum, estimator.rtt());
-        k += 1;
     }
     left::mix_estimator(sum, estimator)
 }
@@ -27,12 +24,10 @@ pub fn samples(list: &[u64]) -> u64 {
 pub fn packets(list: &[u64]) -> u64 {
     let mut processor = EcnProcessor::new();
     let mut sum: u64 = 0;
-    let mut k: usize = 0;
-    while k < list.len() {
-        let processed = processor.process_tos(call::tos_of(list[k]));
+    for word in list {
+        let processed = processor.process_tos(call::tos_of(*word));
         processor = processed.processor;
         sum = call::mix_flag(sum, processed.signal);
-        k += 1;
     }
     left::mix_processor(sum, processor)
 }
@@ -40,24 +35,18 @@ pub fn packets(list: &[u64]) -> u64 {
 // The checksum of a list of rates and factors.
 pub fn decreases(list: &[u64]) -> u64 {
     let mut sum: u64 = 0;
-    let mut k: usize = 0;
-    while k < list.len() {
-        let word = list[k];
-        let rate = call::amount_of(word);
-        let factor = call::factor_of(word);
-        sum = call::mix_u32(sum, rate_controller::decrease(rate, factor, LEAST));
-        k += 1;
+    for word in list {
+        let rate = rate_controller::decrease(call::amount_of(*word), call::factor_of(*word), LEAST);
+        sum = call::mix_u32(sum, rate);
     }
     sum
 }
 
 // The checksum of a list on the part of a number: 0 an estimator, 1 a processor, else decreases.
 pub fn run(list: &[u64], part: u8) -> u64 {
-    if part == 0 {
-        return samples(list);
+    match part {
+        0 => samples(list),
+        1 => packets(list),
+        _ => decreases(list),
     }
-    if part == 1 {
-        return packets(list);
-    }
-    decreases(list)
 }
