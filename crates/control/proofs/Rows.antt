@@ -1,55 +1,9 @@
--- Laws of rows: a row is read, one is put in or taken out, all are mapped, place by place, and a writer's is found. Assumes nothing.
-use Prim.Native.Nat.{ℕ, zero, suc, ◌≤◌, ◌<◌, min}
-use mathlib.Core.Bool.{true, false}
-use mathlib.Core.List.{List, [], ◌∷◌, ◌++◌, map}
-use mathlib.Core.Path.{◌≡◌, refl, ap}
-use native.Mathlib.Omega.{arith}
-use borrow.Author.Tests.{le-ltb, lt-ltb}
-use lib.Dec.{eqb}
-use lib.ListN.{length, take, drop, get_or, set}
-use Rattle.numeric.proofs.Search.{first-none, first_is}
-use Rattle.control.specs.BudgetAllocator.{lacking, taken_of, row_at, place_of, is_known, known_budget, budget_of}
+-- Laws of rows: one is put in or taken out, and all are mapped. Assumes nothing.
+use Rattle.std.proofs.Common.{◌≡◌, ℕ, zero, suc, ◌+◌, ◌-◌, ◌<◌, ◌≤◌, min, max, List, [], ◌∷◌, ◌++◌, map, get_or, set, take, drop, length, refl, ap, sym, arith}
+use Rattle.std.specs.List.{copy_within}
+use Rattle.control.specs.BudgetAllocator.{lacking, blank_writer, taken_of, table_of, with_row, without_row}
+use Rattle.control.specs.declared.budget_allocator.WriterInfo.{WriterInfo}
 use Rattle.control.specs.declared.budget_allocator.WriterTable.{WriterTable}
-
--- of the first n rows, from row k on: row k, and those after it
-pub rows_from : {A : Type 0} (l : List A) (n k : ℕ) (d : A) → k < n → n ≤ length l → drop k (take n l) ≡ get_or l k d ∷ drop (suc k) (take n l)
-rows_from [] n k d lt le = absurd (omega arith)
-rows_from (x ∷ xs) zero k d lt le = absurd (omega arith)
-rows_from (x ∷ xs) (suc n) zero d lt le = refl
-rows_from (x ∷ xs) (suc n) (suc k) d lt le = rows_from xs n k d (omega arith) (omega arith)
-
--- after all of them there are none
-pub rows_end : {A : Type 0} (l : List A) (n k : ℕ) → n ≤ k → drop k (take n l) ≡ []
-rows_end l zero zero le = refl
-rows_end l zero (suc k) le = refl
-rows_end [] (suc n) zero le = absurd (omega arith)
-rows_end [] (suc n) (suc k) le = refl
-rows_end (x ∷ xs) (suc n) zero le = absurd (omega arith)
-rows_end (x ∷ xs) (suc n) (suc k) le = rows_end xs n k (omega arith)
-
--- a carried element that is exchanged for row k now lies before row k + 1
-pub carry_on : {A : Type 0} (l : List A) (k : ℕ) (c d : A) → k < length l →
-    take (suc k) (set l k c) ++ (get_or l k d ∷ drop (suc k) (set l k c)) ≡ take k l ++ (c ∷ drop k l)
-carry_on [] k c d lt = absurd (omega arith)
-carry_on (x ∷ xs) zero c d lt = refl
-carry_on (x ∷ xs) (suc k) c d lt = ap (λ (r : List _). x ∷ r) (carry_on xs k c d (omega arith))
-
--- one that lies before row k + 1 and is exchanged for row k lies before row k
-pub carry_back : {A : Type 0} (l : List A) (k : ℕ) (c d : A) → k < length l →
-    take k (set l k c) ++ (get_or l k d ∷ drop k (set l k c)) ≡ take (suc k) l ++ (c ∷ drop (suc k) l)
-carry_back [] k c d lt = absurd (omega arith)
-carry_back (x ∷ xs) zero c d lt = refl
-carry_back (x ∷ xs) (suc k) c d lt = ap (λ (r : List _). x ∷ r) (carry_back xs k c d (omega arith))
-
--- without the carried element the rows are left, also where it lies after them all
-pub lacking_carried : {A : Type 0} (l : List A) (k : ℕ) (c : A) (m : ℕ) → m ≡ min k (length l) → lacking (take k l ++ (c ∷ drop k l)) m ≡ l
-unfolding lacking
-lacking_carried l zero c zero e = refl
-lacking_carried l zero c (suc m) e = absurd (omega (arith, e))
-lacking_carried [] (suc k) c zero e = refl
-lacking_carried [] (suc k) c (suc m) e = absurd (omega (arith, e))
-lacking_carried (x ∷ xs) (suc k) c zero e = absurd (omega (arith, e))
-lacking_carried (x ∷ xs) (suc k) c (suc m) e = ap (λ (r : List _). x ∷ r) (lacking_carried xs k c m (omega (arith, e)))
 
 -- all rows before row k are mapped, and then row k
 pub mapped_step : {A : Type 0} (f : A → A) (l : List A) (k : ℕ) (d : A) → k < length l →
@@ -58,25 +12,56 @@ mapped_step f [] k d lt = absurd (omega arith)
 mapped_step f (x ∷ xs) zero d lt = refl
 mapped_step f (x ∷ xs) (suc k) d lt = ap (λ (r : List _). f x ∷ r) (mapped_step f xs k d (omega arith))
 
--- ---- the row of a writer
+lacking_is : {A : Type 0} (l : List A) (k : ℕ) → lacking l k ≡ take k l ++ drop (suc k) l
+unfolding lacking
+lacking_is [] zero = refl
+lacking_is [] (suc k) = refl
+lacking_is (x ∷ xs) zero = refl
+lacking_is (x ∷ xs) (suc k) = ap (λ (r : List _). x ∷ r) (lacking_is xs k)
 
--- the first with its id
-pub place_is :
-    (t : WriterTable) (id k : ℕ) → k < taken_of t.count → ((j : ℕ) → j < k → eqb (row_at t.rows j).id id ≡ false) → eqb (row_at t.rows k).id id ≡ true
-    → place_of t id ≡ k
-unfolding place_of
-place_is t id k lt before here = first_is _ _ k lt before here
+-- the m rows from row k on, moved on by one onto row n, and another in row k
+rows_moved_on : {A : Type 0} (l : List A) (k m n : ℕ) (c : A) → k + m ≡ n → n < length l →
+    set (take (suc k) l ++ take m (drop k l) ++ drop (suc n) l) k c ≡ lacking (take k l ++ (c ∷ drop k l)) (suc n)
+unfolding lacking
+rows_moved_on [] k m n c e lt = absurd (omega arith)
+rows_moved_on (x ∷ xs) zero m n c e lt =
+    let same : m ≡ n = omega (arith, e) in rw same (ap (λ (r : List _). c ∷ r) (sym (lacking_is (x ∷ xs) n)))
+rows_moved_on (x ∷ xs) (suc k) m zero c e lt = absurd (omega (arith, e))
+rows_moved_on (x ∷ xs) (suc k) m (suc n) c e lt =
+    ap (λ (r : List _). x ∷ r) (rows_moved_on xs k m n c (omega (arith, e)) (omega (arith, lt)))
 
--- or none
-pub place_none : (t : WriterTable) (id : ℕ) → ((j : ℕ) → j < taken_of t.count → eqb (row_at t.rows j).id id ≡ false) → place_of t id ≡ taken_of t.count
-unfolding place_of
-place_none t id none = first-none _ _ none
+pub row_put : (t : WriterTable) (k : ℕ) (w : WriterInfo) → length t.rows ≡ 64 → taken_of t.count < 64 → k ≤ taken_of t.count →
+    table_of (set (copy_within t.rows k (taken_of t.count) (k + 1)) k w) t.count ≡ with_row t k w
+unfolding with_row
+row_put t k w size room le =
+    let n : ℕ = taken_of t.count in
+    let at : k + 1 ≡ suc k = omega arith in
+    let end : k + 1 + (n - k) ≡ suc n = omega (arith, le) in
+    let out : min (max k (n + 1)) 64 ≡ suc n = omega (arith, le, room) in
+    rw (end, at, out) (ap (λ (rows : List WriterInfo). table_of rows t.count) (rows_moved_on t.rows k (n - k) n w (omega (arith, le)) (omega (arith, size, room))))
 
-pub budget_is :
-    (t : WriterTable) (id k : ℕ) → k < taken_of t.count → place_of t id ≡ k → budget_of t id ≡ known_budget (row_at t.rows k).budget_bps
-unfolding budget_of is_known
-budget_is t id k lt e = rw (e, lt-ltb _ _ lt) refl
+-- the rows after row k moved up by one, and another last
+rows_moved_up : {A : Type 0} (l : List A) (k m p : ℕ) (c : A) → k + m ≡ p → suc p ≡ length l →
+    set (take k l ++ take m (drop (suc k) l) ++ drop p l) p c ≡ lacking (l ++ (c ∷ [])) k
+unfolding lacking
+rows_moved_up [] k m p c e size = absurd (omega (arith, size))
+rows_moved_up (x ∷ xs) zero m p c e size =
+    let same : m ≡ p = omega (arith, e) in rw same (last xs x p (omega (arith, size)))
+  where
+    last : (xs : List _) (x : _) (p : ℕ) → p ≡ length xs → set (take p xs ++ drop p (x ∷ xs)) p c ≡ xs ++ (c ∷ [])
+    last [] x zero e = refl
+    last [] x (suc p) e = absurd (omega (arith, e))
+    last (y ∷ ys) x zero e = absurd (omega (arith, e))
+    last (y ∷ ys) x (suc p) e = ap (λ (r : List _). y ∷ r) (last ys y p (omega (arith, e)))
+rows_moved_up (x ∷ xs) (suc k) m zero c e size = absurd (omega (arith, e))
+rows_moved_up (x ∷ xs) (suc k) m (suc p) c e size =
+    ap (λ (r : List _). x ∷ r) (rows_moved_up xs k m p c (omega (arith, e)) (omega (arith, size)))
 
-pub budget_none : (t : WriterTable) (id : ℕ) → place_of t id ≡ taken_of t.count → budget_of t id ≡ record { known = false; bps = 0 }
-unfolding budget_of is_known
-budget_none t id e = rw (e, le-ltb (taken_of t.count) (taken_of t.count) (omega arith)) refl
+pub row_dropped : (t : WriterTable) (k : ℕ) → length t.rows ≡ 64 → k < 64 →
+    table_of (set (copy_within t.rows (k + 1) 64 k) 63 blank_writer) t.count ≡ without_row t k
+unfolding without_row
+row_dropped t k size lt =
+    let at : k + 1 ≡ suc k = omega arith in
+    let end : k + (64 - (k + 1)) ≡ 63 = omega (arith, lt) in
+    let out : min k 64 ≡ k = omega (arith, lt) in
+    rw (end, at, out) (ap (λ (rows : List WriterInfo). table_of rows t.count) (rows_moved_up t.rows k (64 - suc k) 63 blank_writer (omega (arith, lt)) (omega (arith, size))))

@@ -145,23 +145,21 @@ impl WriterTable {
     fn place_of(&self, id: u64) -> usize
         ensures { result ≡ place_of self.now id }
     {
-        let writers = self.writers();
-        writers
+        self.writers()
             .iter()
             .position(|row| row.id == id)
-            .unwrap_or(writers.len())
+            .unwrap_or(taken(self.count))
     }
 
     // The row for a new writer: before the first that comes after it.
     fn place_for(&self, writer: WriterInfo) -> usize
-        ensures { result ≡ place_for self.now writer }
+        ensures place { result ≡ place_for self.now writer }
+        ensures within { result ≤ taken_of self.now.count }
     {
-        for (place, row) in self.writers().iter().enumerate() {
-            if writer.comes_before(row) {
-                return place;
-            }
-        }
-        taken(self.count)
+        self.writers()
+            .iter()
+            .position(|row| writer.comes_before(row))
+            .unwrap_or(taken(self.count))
     }
 
     // A writer takes a row; that row and those after it move on by one, up to the first free one.
@@ -239,8 +237,7 @@ impl WriterTable {
         ensures { result ≡ budget_of self id }
     {
         self.writers()
-            .iter()
-            .find(|row| row.id == id)
+            .get(self.place_of(id))
             .map(|row| row.budget_bps)
     }
 
