@@ -5,7 +5,6 @@ ghost use Rattle.config.specs.Config.{class_number, class_of, setting_number, fa
 
 use crate::ledger::check_time;
 use crate::refusal::{LARGEST_RATE, Refusal, error_if};
-use numeric::float::is_finite_f32;
 
 // Explicit congestion notification: off, used where it is to be had, or required.
 #[derive(Clone, Copy, Debug, PartialEq, Eq)]
@@ -204,15 +203,15 @@ impl CongestionConfig {
             || LARGEST_RATE < self.p0_min_bps
     }
 
-    #[tactic(auto, unfolding(crate::specs::Config::floats_beyond))]
+    #[tactic(auto, using(numeric::proofs::Patterns::finite_is), unfolding(crate::specs::Config::floats_beyond))]
     fn floats_beyond(self) -> bool
         ensures { result ≡ floats_beyond self }
     {
-        !is_finite_f32(self.md_factor_hard)
-            || !is_finite_f32(self.md_factor_soft)
-            || !is_finite_f32(self.score_decay)
-            || !is_finite_f32(self.repair_budget_ratio)
-            || !is_finite_f32(self.p0_min_share)
+        !self.md_factor_hard.is_finite()
+            || !self.md_factor_soft.is_finite()
+            || !self.score_decay.is_finite()
+            || !self.repair_budget_ratio.is_finite()
+            || !self.p0_min_share.is_finite()
     }
 
     #[tactic(auto, unfolding(crate::specs::Config::queues_beyond))]

@@ -53,3 +53,10 @@ abs_pattern f x F h = subst (λ (b : Bool). T (not b)) (sym (nan_bits_is f _ ∙
     same nan = refl
     same (inf s) = refl
     same (fin s m e) = refl
+
+-- a NaN stays one
+pub abs_nan : (x : Float) → is_nan x ≡ true → x ≡ abs_of x
+unfolding is_nan
+abs_nan nan h = refl
+abs_nan (inf s) h = absurd (true≢false (sym h))
+abs_nan (fin s m e) h = absurd (true≢false (sym h))

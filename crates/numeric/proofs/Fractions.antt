@@ -28,7 +28,7 @@ div_value f (fin false m e) (fin false n g) a c b d C D B h k =
         simp (mul_assoc, mul_comm, mul_left_comm) (simp (mul_assoc, mul_comm, mul_left_comm) at p)
 
 -- ---- their order, from that of the fractions and back
-both-le : (a b : ℕ) → T (ltb a b || (eqb a b && true)) → a ≤ b
+pub both-le : (a b : ℕ) → T (ltb a b || (eqb a b && true)) → a ≤ b
 both-le a b t = go (ltb a b) (ltb→lt a b) t
   where
     go : (x : Bool) → (T x → a < b) → T (x || (eqb a b && true)) → a ≤ b

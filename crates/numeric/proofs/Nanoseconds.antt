@@ -8,6 +8,7 @@ use lib.Ieee.Nearest.{closest, closest_same}
 use lib.Ieee.Positive.{num, den, positive, den_pos, above_of_le}
 use Rattle.numeric.specs.Duration.{nanos_of}
 use Rattle.numeric.proofs.Closest.{cmp, less}
+use Rattle.numeric.proofs.Fractions.{both-le}
 use Rattle.numeric.proofs.Truncation.{Within, two_to, neither, b, q, j, v, field, lower, upper}
 
 abbrev pub least : Float
@@ -102,10 +103,11 @@ too_small (fin false m e) h =
     let k : m * up e * 2147483648 ≤ down e = simp one-mul at (nltb→le (1 * 1 * down e) (m * up e * 2 ^ 31) (neither (ltb (1 * 1 * down e) (m * up e * 2 ^ 31)) (eqb (1 * 1 * down e) (m * up e * 2 ^ 31)) h).0) in
     sym (simp (lt-ltb (m * up e) (2 ^ 32 * down e) (fewer (m * up e) (down e) (down_pos e) k)) (none (m * up e) (down e) (down_pos e) k))
 
-pub too_long : (x : Float) → T (le least x) → T (not (lt x (two_to 32))) → 18446744073709551615 ≡ nanos_of x
-unfolding lt
-too_long nan a h = absurd (above_of_le least nan tt a)
-too_long (inf true) a h = absurd (above_of_le least (inf true) tt a)
-too_long (inf false) a h = refl
-too_long (fin true m e) a h = absurd (above_of_le least (fin true m e) tt a)
-too_long (fin false m e) a h = sym (simp (le-ltb (m * up e) (2 ^ 32 * down e) (simp (mul-one, one-mul) at (nltb→le (m * up e * 1) (1 * 2 ^ 32 * down e) h))))
+pub too_long : (x : Float) → T (le (two_to 32) x) → 18446744073709551615 ≡ nanos_of x
+unfolding le
+too_long nan h = absurd h
+too_long (inf true) h = absurd h
+too_long (inf false) h = refl
+too_long (fin true m e) h = absurd (above_of_le (two_to 32) (fin true m e) tt h)
+too_long (fin false m e) h =
+    sym (simp (le-ltb (m * up e) (2 ^ 32 * down e) (simp (mul-one, one-mul) at (both-le (1 * 2 ^ 32 * down e) (m * up e * 1) h))))

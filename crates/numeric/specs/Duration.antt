@@ -10,7 +10,7 @@ seconds_of n =
     add binary64 (of_int binary64 (pos (n / 1000000000)))
     (div binary64 (of_int binary64 (pos (n % 1000000000))) (from_bits binary64 0x41cd_cd65_0000_0000))
 
--- `Duration::from_secs_f64` (document 01, "Floats": nearest nanosecond, ties to even): the whole number closest to the exact product with 10^9.
+-- `Duration::from_secs_f64` ("nearest nanosecond, ties to even"): the whole number closest to the exact product with 10^9.
 -- Outside Rust's range: 0 below zero and for a NaN. From 2^32 seconds on, the largest u64.
 abbrev pub nanos_of : Float → ℕ
 nanos_of nan = 0

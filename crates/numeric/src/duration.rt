@@ -17,13 +17,11 @@ pub fn as_secs_f64(nanos: u64) -> f64
 pub fn from_secs_f64(secs: f64) -> u64
     ensures { result ≡ nanos_of secs }
 {
-    if secs >= 4.656612873077393e-10 {
-        if secs < 4294967296.0 {
-            let bits = f64::to_bits(secs);
-            nearest_scaled(bits, 1054 - bits / 4503599627370496)
-        } else {
-            18446744073709551615
-        }
+    if secs >= 4294967296.0 {
+        u64::MAX
+    } else if secs >= 4.656612873077393e-10 {
+        let bits = secs.to_bits();
+        nearest_scaled(bits, 1054 - bits / 4503599627370496)
     } else {
         0
     }
@@ -41,9 +39,7 @@ fn nearest_scaled(bits: u64, shift: u64) -> u64
     let halves = high / unit;
     if halves % 2 == 0 {
         halves / 2
-    } else if high % unit != 0 {
-        halves / 2 + 1
-    } else if low % 2048 != 0 {
+    } else if high % unit != 0 || low % 2048 != 0 {
         halves / 2 + 1
     } else {
         halves / 2 + halves / 2 % 2

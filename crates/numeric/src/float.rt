@@ -1,8 +1,16 @@
 // Conversions between integers and floats, bit patterns, and f32's max, clamp and absolute value.
+// Stays: the conversions, max, clamp and absolute value are worked out here and not taken from std, as the project's scope asks: "Rust's `as` from integer to
+// f32 rounds to nearest, ties to even; from float to integer it truncates. Both are worked out here, as are clamp, max, absolute value".
+// Stays: `f32_of_u32` beside `f64_of_u64`, and `u32_of_f32` beside `u64_of_f64`: one generic function would take its type's operators, literals and bit pattern
+// through a trait made for it, and be longer than the two; what is proved of both is proved once, with the format as a parameter.
 ghost use Rattle.std.specs.Prelude.{◌≡◌, pos};
 ghost use Rattle.std.specs.Float.Ieee as Ieee;
 ghost use Rattle.std.specs.Float.{binary32, binary64};
 ghost use Rattle.numeric.specs.Float.{scaled, max_of, clamp_of, abs_of, finite};
+
+use std::num::{
+    f32_from_bits_with_nan, f32_to_bits_with_nan, f64_from_bits_with_nan, f64_to_bits_with_nan,
+};
 
 // The nearest f32 of a rate, ties to even: Rust's `n as f32`.
 // Each half of n is a float exactly, and so is the upper half times 2^16; only the sum rounds.
@@ -31,15 +39,13 @@ pub fn f64_of_u64(n: u64) -> f64
 pub fn u32_of_f32(x: f32) -> u32
     ensures { result ≡ Ieee.to_unsigned 32 x }
 {
-    if x >= 1.0 {
-        if x < 4294967296.0 {
-            let bits = f32::to_bits(x);
-            let exponent = bits / 8388608;
-            let digits = 8388608 + bits % 8388608;
-            (digits * 256) >> (158 - exponent)
-        } else {
-            4294967295
-        }
+    if x >= 4294967296.0 {
+        u32::MAX
+    } else if x >= 1.0 {
+        let bits = x.to_bits();
+        let exponent = bits / 8388608;
+        let digits = 8388608 + bits % 8388608;
+        (digits * 256) >> (158 - exponent)
     } else {
         0
     }
@@ -49,21 +55,20 @@ pub fn u32_of_f32(x: f32) -> u32
 pub fn u64_of_f64(x: f64) -> u64
     ensures { result ≡ Ieee.to_unsigned 64 x }
 {
-    if x >= 1.0 {
-        if x < 18446744073709551616.0 {
-            let bits = f64::to_bits(x);
-            let exponent = bits / 4503599627370496;
-            let digits = 4503599627370496 + bits % 4503599627370496;
-            (digits * 2048) >> (1086 - exponent)
-        } else {
-            18446744073709551615
-        }
+    if x >= 18446744073709551616.0 {
+        u64::MAX
+    } else if x >= 1.0 {
+        let bits = x.to_bits();
+        let exponent = bits / 4503599627370496;
+        let digits = 4503599627370496 + bits % 4503599627370496;
+        (digits * 2048) >> (1086 - exponent)
     } else {
         0
     }
 }
 
 // A factor of a rate: the nearest f32 of the rate times the factor in f32, cut to a whole number. Rust's `(n as f32 * factor) as u32`.
+#[tactic(auto, unfolding(crate::specs::Float::scaled))]
 pub fn scaled_u32(n: u32, factor: f32) -> u32
     ensures { result ≡ scaled n factor }
 {
@@ -74,53 +79,35 @@ pub fn scaled_u32(n: u32, factor: f32) -> u32
 pub fn f32_of_bits(bits: u32) -> f32
     ensures { result ≡ Ieee.of_bits binary32 bits }
 {
-    if bits % 0x8000_0000 > 0x7f80_0000 {
-        0.0 / 0.0
-    } else {
-        f32::from_bits(bits)
-    }
+    f32_from_bits_with_nan(bits)
 }
 
 // The bit pattern of an f32, for output: Rust's `to_bits`, and one quiet pattern for every NaN.
 pub fn bits_of_f32(x: f32) -> u32
     ensures { result ≡ Ieee.to_bits binary32 x }
 {
-    if x == x { f32::to_bits(x) } else { 0x7fc0_0000 }
+    f32_to_bits_with_nan(x)
 }
 
 // The f64 of a bit pattern, for the scripts of the differential runs.
 pub fn f64_of_bits(bits: u64) -> f64
     ensures { result ≡ Ieee.of_bits binary64 bits }
 {
-    if bits % 0x8000_0000_0000_0000 > 0x7ff0_0000_0000_0000 {
-        0.0 / 0.0
-    } else {
-        f64::from_bits(bits)
-    }
+    f64_from_bits_with_nan(bits)
 }
 
 // The bit pattern of an f64, for the same.
 pub fn bits_of_f64(x: f64) -> u64
     ensures { result ≡ Ieee.to_bits binary64 x }
 {
-    if x == x {
-        f64::to_bits(x)
-    } else {
-        0x7ff8_0000_0000_0000
-    }
+    f64_to_bits_with_nan(x)
 }
 
 // The larger of two, as Rust's `f32::max`: a NaN gives way to the other. Of two equal zeros it is the first.
 pub fn max_f32(x: f32, y: f32) -> f32
     ensures { result ≡ max_of x y }
 {
-    if x < y {
-        y
-    } else if x == x {
-        x
-    } else {
-        y
-    }
+    if x < y || x.is_nan() { y } else { x }
 }
 
 // A score held to its range, as Rust's `f32::clamp` where low is at most high; a NaN stays.
@@ -140,19 +127,17 @@ pub fn clamp_f32(x: f32, low: f32, high: f32) -> f32
 pub fn abs_f32(x: f32) -> f32
     ensures { result ≡ abs_of x }
 {
-    if x == x {
-        return f32::from_bits(f32::to_bits(x) % 0x8000_0000);
+    if x.is_nan() {
+        x
+    } else {
+        f32::from_bits(x.to_bits() % 0x8000_0000)
     }
-    x
 }
 
 // Whether a setting is a number: neither a NaN nor an infinity. Rust's `f32::is_finite`.
+#[tactic(auto, using(crate::proofs::Patterns::finite_is))]
 pub fn is_finite_f32(x: f32) -> bool
     ensures { result ≡ finite x }
 {
-    if x < f32::from_bits(0x7f80_0000) {
-        x > f32::from_bits(0xff80_0000)
-    } else {
-        false
-    }
+    x.is_finite()
 }

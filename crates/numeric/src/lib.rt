@@ -1,4 +1,4 @@
-// What Rust's `as`, f32, Duration and the unsigned integers do and the language lacks.
+// What Rust's `as`, f32 and Duration do, worked out here, and the product modulo 2^64.
 // Every function is total: it has an answer at every value of its types.
 #![tactic(auto)]
 

@@ -1,38 +1,29 @@
 -- The last digit of `halves` rounds, and what is left below it breaks ties: the lemmas of proofs/Closest.antt. Assumes nothing.
-use Rattle.std.proofs.Common.{◌≡◌, ℕ, ◌+◌, ◌*◌, ◌%◌, ◌^◌, ◌<◌, arith}
+use Rattle.std.proofs.Common.{◌≡◌, ℕ, ◌+◌, ◌*◌, ◌<◌, true, false, not, eqb, sym, ◌∙◌, eqb-true, arith}
+use Rattle.std.proofs.lemmas.Bool.{eqb-false}
+use borrow.Author.Tests.{not-true, not-false}
 use Rattle.numeric.proofs.Closest.{even_bit, odd_bit, tie_bit}
 use Rattle.numeric.proofs.duration.nearest_scaled.Goals as goal
-use Rattle.numeric.proofs.duration.nearest_scaled.Goals.{After-power_of_two-unit}
+use Rattle.numeric.proofs.duration.nearest_scaled.Goals.{then-high-unit-ne0, else-high-unit-ne0}
 
-abbrev d : After-power_of_two-unit → ℕ
-d p = 4503599627370496 + p.args.bits % 4503599627370496
+some : (x y : ℕ) → not (eqb y 0) ≡ true → 0 < x * 2048 + y
+some x y h = let n = eqb-false y 0 (not-true (eqb y 0) h) in omega arith
 
-abbrev k : After-power_of_two-unit → ℕ
-k p = p.args.shift % 64
-
-abbrev h : After-power_of_two-unit → ℕ
-h p = p.power_of_two-unit.result
-
-is : (p : After-power_of_two-unit) → h p ≡ 2 ^ k p
-is p = p.power_of_two-unit.ensures
-
-odd : (t : ℕ) → (t % 2 ≡ 0 → ⊥) → t % 2 ≡ 1
-odd t n = omega arith
-
-some : (x y : ℕ) → (x ≡ 0 → ⊥) → 0 < x * 2048 + y
-some x y n = omega arith
-
-some_below : (x y : ℕ) → (y ≡ 0 → ⊥) → 0 < x * 2048 + y
-some_below x y n = omega arith
+none : {y : ℕ} → not (eqb y 0) ≡ false → y ≡ 0
+none {y} h = eqb-true y 0 (not-false (eqb y 0) h)
 
 pub returns-then-halves-eq0 : goal.returns-then-halves-eq0
-returns-then-halves-eq0 c = even_bit (d c.before) (k c.before) (h c.before) (is c.before) c.if-halves-eq0.true
-
-pub returns-then-high-unit-ne0 : goal.returns-then-high-unit-ne0
-returns-then-high-unit-ne0 c = let p = c.before.before in odd_bit (d p) (k p) (h p) (is p) (odd _ c.if-halves-eq0.false) (some _ _ c.if-high-unit-ne0.true)
+returns-then-halves-eq0 c = even_bit _ _ _ c.power_of_two-unit.ensures c.if-halves-eq0.true
 
 pub returns-then-low-ne0 : goal.returns-then-low-ne0
-returns-then-low-ne0 c = let p = c.before.before.before in odd_bit (d p) (k p) (h p) (is p) (odd _ c.if-halves-eq0.false) (some_below _ _ c.if-low-ne0.true)
+returns-then-low-ne0 c =
+    odd_bit _ _ _ c.power_of_two-unit.ensures (omega arith)
+    (elim c.if-high-unit-ne0.branch [ then-high-unit-ne0 w ↦ omega arith | else-high-unit-ne0 w ↦ some _ _ (sym w.value-is ∙ c.if-low-ne0.true) ])
 
 pub returns-else-low-ne0 : goal.returns-else-low-ne0
-returns-else-low-ne0 c = let p = c.before.before.before in tie_bit (d p) (k p) (h p) (is p) (odd _ c.if-halves-eq0.false) c.if-high-unit-ne0.false c.if-low-ne0.false
+returns-else-low-ne0 c =
+    elim c.if-high-unit-ne0.branch [
+      | then-high-unit-ne0 w ↦ absurd (w.if-high-unit-ne0.true (none (sym w.value-is ∙ c.if-low-ne0.false)))
+      | else-high-unit-ne0 w ↦
+          tie_bit _ _ _ c.power_of_two-unit.ensures (omega arith) (omega arith) (none (sym w.value-is ∙ c.if-low-ne0.false))
+    ]
