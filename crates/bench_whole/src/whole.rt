@@ -27,10 +27,9 @@ fn hand_in(
 // The checksum of a list of calls on one new pacer, 0 where no pacer has the rate; the pacer numbers of the list are not read.
 pub fn run(list: &[u64], pool: &mut [u8], bytes: &[u8], rate_bps: u32) -> u64 {
     let limits = Limits::of(CongestionConfig::new());
-    let Ok(made) = WriterPacerAlone::with_rate(0, CongestionConfig::new(), rate_bps) else {
+    let Ok(mut alone) = WriterPacerAlone::with_rate(0, CongestionConfig::new(), rate_bps) else {
         return 0;
     };
-    let mut alone = made;
     let mut time: u64 = 0;
     let mut sum: u64 = 0;
     for (k, word) in list.iter().enumerate() {
