@@ -1,19 +1,22 @@
 -- What a call does to a station, in six cases: it is turned down, steers the controller alone, gives new budgets, registers a writer,
 -- hands in a record, or attempts to send one. Assumes nothing.
 use Prim.Native.Nat.{ℕ, ◌^◌, ◌≤◌, ◌<◌}
-use mathlib.Core.Bool.{true, false, cond, true≢false}
+use mathlib.Core.Bool.{false}
 use mathlib.Core.List.{List}
 use mathlib.Core.Logic.{◌≢◌}
-use mathlib.Core.Path.{◌≡◌, refl, sym, ap, subst, ◌∙◌}
-use native.Mathlib.Omega.{arith}
-use borrow.Author.Tests.{ne_eqb, eqb-true, eqb-false, ltb-false, leb-false}
-use lib.Dec.{ltb, leb, eqb}
+use mathlib.Core.Path.{◌≡◌, refl, sym, subst, ◌∙◌}
+use borrow.Author.Tests.{ne_eqb, ltb-false, leb-false}
+use lib.Dec.{ltb, leb}
 use lib.Ieee.{Float}
 use lib.ListN.{length}
-use Rattle.config.proofs.Refusals.{NoneOf, none_where_accepted, answer-applies}
+use Rattle.std.specs.Prelude.{Ok, Err}
+use Rattle.config.proofs.Refusals.{Verdict, NoneApplies, none_where_accepted, no_refusal_zero, no_refusal_twelve}
 use Rattle.config.specs.Ledger.{timed_checks, rate_checks}
-use Rattle.config.specs.Refusal.{Check, applies, order, answer_of}
+use Rattle.config.specs.Refusal.{Check, applies, verdict_of, number_of}
+use Rattle.config.specs.declared.alone.Left.{Left}
 use Rattle.config.specs.declared.config.Priority.{Priority}
+use Rattle.config.specs.declared.refusal.Refusal.{Refusal}
+use Rattle.config.specs.declared.refusal.Refusal.TheVariants.{RecordTooLong, TimeBeyond, BufferTooShort, CallsUsedUp, TimeBack, WriterUnknown, TableFull}
 use Rattle.control.specs.BudgetAllocator.{reallocated}
 use Rattle.control.specs.Controller.{sampled, ticked_with, core_ticked, controller_ticked, controller_set}
 use Rattle.control.specs.declared.controller.CongestionController.{CongestionController}
@@ -27,12 +30,10 @@ use Rattle.pacing.specs.declared.pool.Limits.{Limits}
 use Rattle.pacing.specs.declared.writer_pacer.SendAction.{SendAction}
 use Rattle.pacing.specs.declared.writer_pacer.SendAction.TheVariants.{Send, Empty, RateLimited}
 use Rattle.signals.specs.RttEstimator.{any_inflated}
-use Rattle.station.specs.Station.{turned_down, left_by, answer_with, register_checks, register_leaves, registered_station, steered, eagain_station, nacks_station, tos_station, rtt_checks, rtt_station, allotted, tick_leaves, ticked_station, rated_station, limits_in, slots_needed, hand_in_checks, enqueued_in, hand_in_leaves, handed_station, pool_handed, send_checks, attempt_in, send_leaves, sent_station}
+use Rattle.station.specs.Station.{turned_down, left_by, answer_with, register_checks, register_leaves, registered_station, steered, eagain_station, nacks_station, tos_station, rtt_checks, rtt_station, allotted, tick_leaves, ticked_station, rated_station, limits_in, slots_needed, hand_in_checks, enqueued_in, hand_in_leaves, handed_station, pool_by, pool_handed, send_checks, attempt_in, send_leaves, sent_station}
 use Rattle.station.specs.declared.station.Station.{Station}
-use Rattle.station.specs.declared.station.StationAnswer.{StationAnswer}
-use Rattle.station.specs.declared.station.StationSent.{StationSent}
 use Rattle.guarantees.specs.Book.{Book, Sent, none, sent_in, noted}
-use Rattle.guarantees.specs.Calls.{Lent, owed, Steering, eagain, tos, nacks, rtt, tick, set_rate, Call, register, control, hand_in, send, controlled, Reply, nothing, signal, unchanged, updates, action, Outcome, outcome_of, plain, signals, allots, attempts, rows_of, lent_length, lent_in, outcome, written}
+use Rattle.guarantees.specs.Calls.{Lent, owed, Steering, eagain, tos, nacks, rtt, tick, set_rate, Call, register, control, hand_in, send, controlled, Reply, nothing, signal, unchanged, updates, action, Outcome, outcome_of, plain, signals, rows_of, allots, rates, hands, attempts, lent_length, lent_in, outcome, written}
 use Rattle.guarantees.specs.Theorem.{is_updates, begins, paid_by}
 
 -- ---- calls and replies that concern no record
@@ -75,24 +76,27 @@ pub record Timed (s : Station) (time : ℕ) : Type 0 where
   pub room : s.ledger.calls < 2 ^ 40
   pub ahead : s.ledger.last ≤ time
 
-timed : (s : Station) (time : ℕ) → ltb (2 ^ 62) time ≡ false → leb (2 ^ 40) s.ledger.calls ≡ false → ltb time s.ledger.last ≡ false → Timed s time
-timed s time a b c = record { latest = ltb-false _ _ a; room = leb-false _ _ b; ahead = ltb-false _ _ c }
-
--- 7, 17 and 11 stand at the seventh, ninth and tenth place of the order
 timed_by :
-    (s : Station) (time : ℕ) (checks : List Check) → applies checks 7 ≡ ltb (2 ^ 62) time → applies checks 17 ≡ leb (2 ^ 40) s.ledger.calls
-    → applies checks 11 ≡ ltb time s.ledger.last → NoneOf order checks → Timed s time
+    (s : Station) (time : ℕ) (checks : List Check) → applies checks TimeBeyond ≡ ltb (2 ^ 62) time → applies checks CallsUsedUp ≡ leb (2 ^ 40) s.ledger.calls
+    → applies checks TimeBack ≡ ltb time s.ledger.last → NoneApplies checks → Timed s time
 timed_by s time checks a b c n =
-    timed s time (sym a ∙ n.1.1.1.1.1.1.0) (sym b ∙ n.1.1.1.1.1.1.1.1.0) (sym c ∙ n.1.1.1.1.1.1.1.1.1.0)
+    record {
+      latest = ltb-false _ _ (sym a ∙ n TimeBeyond);
+      room = leb-false _ _ (sym b ∙ n CallsUsedUp);
+      ahead = ltb-false _ _ (sym c ∙ n TimeBack);
+    }
 
--- 12 is no check's answer
-not_full : (checks : List Check) → applies checks 12 ≡ false → answer_of checks ≢ 12
-not_full checks h e =
-    true≢false
-    (sym (answer-applies checks (λ (z : answer_of checks ≡ 0). zero_twelve (sym z ∙ e))) ∙ ap (applies checks) e ∙ h)
+-- a call that answers by its checks is turned down for a reason, or has passed them all
+by_verdict :
+    {T : Type 0} (P : Left Station T → Type 0) (s : Station) (checks : List Check) (done : Left Station T)
+    → ((e : Refusal) → verdict_of checks ≡ Err e → P (turned_down s e)) → (verdict_of checks ≡ Ok tt → NoneApplies checks → P done)
+    → P (left_by (verdict_of checks) s done)
+unfolding left_by
+by_verdict P s checks done down go = by (verdict_of checks) refl
   where
-    zero_twelve : ◌≡◌ {A = ℕ} 0 12 → ⊥
-    zero_twelve q = omega arith
+    by : (v : Verdict) → verdict_of checks ≡ v → P (left_by v s done)
+    by (Ok u) e = go e (none_where_accepted checks e)
+    by (Err r) e = down r e
 
 -- ---- the cases; n is the length of the pool that the last call left
 
@@ -111,10 +115,10 @@ pub record Cases (s : Station) (n : ℕ) (P : Call → Outcome → Type 0) : Typ
       (time i : ℕ) (c : Priority) (key : InstanceKey) (bytes : List ℕ) (lent : Lent) → Timed s time → i < s.roster.count → length bytes ≤ 1472
       → is_short (lent_length n lent) (slots_needed (limits_in s)) ≡ false
       → ((p : List ℕ) → written s n (hand_in time i c key bytes lent) p ≡ hand_in_stored p (limits_in s) i c (enqueued_in s i c key).kept bytes)
-      → P (hand_in time i c key bytes lent) (plain (hand_in_leaves s time i c key (length bytes) (enqueued_in s i c key)))
+      → P (hand_in time i c key bytes lent) (hands (hand_in_leaves s time i c key (length bytes) (enqueued_in s i c key)))
   pub tries :
       (time i : ℕ) (lent : Lent) → Timed s time → i < s.roster.count → is_short (lent_length n lent) (slots_needed (limits_in s)) ≡ false
-      → P (send time i lent) (outcome_of 0 (action (attempt_in s time i).action) (send_leaves s time i (attempt_in s time i)).station)
+      → P (send time i lent) (outcome_of 0 (action (attempt_in s time i).action) (send_leaves s time i (attempt_in s time i)).state)
 
 -- what a send attempt comes to is accepted
 accepts : (a : SendAction) → action_number a ≡ 0
@@ -127,55 +131,34 @@ module _ (s : Station) (n time i : ℕ) (lent : Lent) (P : Outcome → Type 0) w
   abbrev checks : List Check
   checks = send_checks s (lent_length n lent) time i
 
-  abbrev tried : StationSent
+  abbrev tried : Left Station SendAction
   tried = send_leaves s time i (attempt_in s time i)
-
-  send-down : eqb (answer_of checks) 0 ≡ false → attempts (record { answer = answer_of checks; action = Empty; station = s }) ≡ outcome_of (answer_of checks) nothing s
-  send-down e = rw e
-
-  send-taken :
-      (a : SendAction) → action_number a ≡ 0 → P (outcome_of 0 (action a) tried.station)
-      → P (outcome_of (action_number a) (cond (eqb (action_number a) 0) (action a) nothing) tried.station)
-  send-taken a e h = rw e h
 
   pub by_send :
       ((answer : ℕ) → answer ≢ 0 → answer ≢ 12 → P (outcome_of answer nothing s))
       → (Timed s time → i < s.roster.count → is_short (lent_length n lent) (slots_needed (limits_in s)) ≡ false
-      → P (outcome_of 0 (action tried.action) tried.station))
+      → P (outcome_of 0 (action (attempt_in s time i).action) tried.state))
       → P (outcome s n (send time i lent))
   unfolding outcome sent_station
   by_send down taken =
-      by_test (λ (r : StationSent). P (attempts r)) (eqb (answer_of checks) 0)
-      (λ e.
-      let h = none_where_accepted checks (eqb-true _ _ e) in
-      send-taken tried.action (accepts tried.action)
-      (taken (timed_by s time checks refl refl refl h) (leb-false _ _ h.1.1.1.1.1.1.1.1.1.1.1.0) h.1.1.1.1.1.1.1.0))
-      (λ e. subst P (sym (send-down e)) (down (answer_of checks) (eqb-false _ _ e) (not_full checks refl)))
+      by_verdict (λ (r : Left Station SendAction). P (attempts r)) s checks tried
+      (λ e q. down (number_of e) (no_refusal_zero e) (no_refusal_twelve e))
+      (λ q h.
+      rw (accepts (attempt_in s time i).action)
+      (taken (timed_by s time checks refl refl refl h) (leb-false _ _ (h WriterUnknown)) (h BufferTooShort)))
 
 module _ (s : Station) (n : ℕ) (P : Call → Outcome → Type 0) (cases : Cases s n P) where
   -- a call that answers by its checks; `wrap` makes the outcome
   by-checks :
-      (x : Call) (wrap : StationAnswer → Outcome) (checks : List Check) (done : StationAnswer) → applies checks 12 ≡ false
-      → ((answer : ℕ) → eqb answer 0 ≡ false → wrap (turned_down s answer) ≡ outcome_of answer nothing s)
-      → (eqb (answer_of checks) 0 ≡ false → (p : List ℕ) → written s n x p ≡ p)
-      → (eqb (answer_of checks) 0 ≡ true → NoneOf order checks → P x (wrap done)) → P x (wrap (left_by (answer_of checks) s done))
-  unfolding left_by
-  by-checks x wrap checks done twelve down still go =
-      by_test (λ (r : StationAnswer). P x (wrap r)) (eqb (answer_of checks) 0) (λ e. go e (none_where_accepted checks (eqb-true _ _ e)))
-      (λ e.
-      subst (P x) (sym (down (answer_of checks) e))
-      (cases.turned_down x (answer_of checks) (eqb-false _ _ e) (not_full checks twelve) (still e)))
+      {T : Type 0} (x : Call) (wrap : Left Station T → Outcome) (checks : List Check) (done : Left Station T)
+      → ((e : Refusal) → wrap (turned_down s e) ≡ outcome_of (number_of e) nothing s)
+      → ((e : Refusal) → verdict_of checks ≡ Err e → (p : List ℕ) → written s n x p ≡ p)
+      → (verdict_of checks ≡ Ok tt → NoneApplies checks → P x (wrap done)) → P x (wrap (left_by (verdict_of checks) s done))
+  by-checks {T} x wrap checks done down still go =
+      by_verdict (λ (r : Left Station T). P x (wrap r)) s checks done
+      (λ e q. subst (P x) (sym (down e)) (cases.turned_down x (number_of e) (no_refusal_zero e) (no_refusal_twelve e) (still e q))) go
 
-  plain_down : (answer : ℕ) → eqb answer 0 ≡ false → plain (turned_down s answer) ≡ outcome_of answer nothing s
-  plain_down answer e = refl
-
-  signals-down : (answer : ℕ) → eqb answer 0 ≡ false → signals (turned_down s answer) ≡ outcome_of answer nothing s
-  signals-down answer e = rw e
-
-  allots-down : (answer : ℕ) → eqb answer 0 ≡ false → allots (turned_down s answer) ≡ outcome_of answer nothing s
-  allots-down answer e = rw e
-
-  passed : (time : ℕ) → NoneOf order (timed_checks s.ledger time) → Timed s time
+  passed : (time : ℕ) → NoneApplies (timed_checks s.ledger time) → Timed s time
   passed time h = timed_by s time (timed_checks s.ledger time) refl refl refl h
 
   -- the controller is steered, and the reply tells of no record and no budgets
@@ -200,40 +183,40 @@ module _ (s : Station) (n : ℕ) (P : Call → Outcome → Type 0) (cases : Case
   by-control : (time : ℕ) (steering : Steering) → P (control time steering) (controlled s time steering)
   unfolding controlled written eagain_station nacks_station tos_station rtt_station ticked_station rated_station controller_ticked controller_set
   by-control time eagain =
-      by-checks (control time eagain) plain (timed_checks s.ledger time) _ refl plain_down (λ e p. refl)
-      (λ e h. steers-by time eagain nothing _ refl (record { sends_none = refl; no_updates = refl }) (passed time h))
+      by-checks (control time eagain) plain (timed_checks s.ledger time) _ (λ e. refl) (λ e q p. refl)
+      (λ q h. steers-by time eagain nothing _ refl (record { sends_none = refl; no_updates = refl }) (passed time h))
   by-control time (tos byte) =
-      by-checks (control time (tos byte)) signals (timed_checks s.ledger time) _ refl signals-down (λ e p. refl)
-      (λ e h. steers-by time (tos byte) (signal _) _ refl (record { sends_none = refl; no_updates = refl }) (passed time h))
+      by-checks (control time (tos byte)) signals (timed_checks s.ledger time) _ (λ e. refl) (λ e q p. refl)
+      (λ q h. steers-by time (tos byte) (signal _) _ refl (record { sends_none = refl; no_updates = refl }) (passed time h))
   by-control time (nacks count) =
-      by-checks (control time (nacks count)) plain (timed_checks s.ledger time) _ refl plain_down (λ e p. refl)
-      (λ e h. steers-by time (nacks count) nothing _ refl (record { sends_none = refl; no_updates = refl }) (passed time h))
+      by-checks (control time (nacks count)) plain (timed_checks s.ledger time) _ (λ e. refl) (λ e q p. refl)
+      (λ q h. steers-by time (nacks count) nothing _ refl (record { sends_none = refl; no_updates = refl }) (passed time h))
   by-control time (rtt peer sample) =
-      by-checks (control time (rtt peer sample)) plain (rtt_checks s time peer sample) _ refl plain_down (λ e p. refl)
-      (λ e h.
+      by-checks (control time (rtt peer sample)) plain (rtt_checks s time peer sample) _ (λ e. refl) (λ e q p. refl)
+      (λ q h.
       steers-by time (rtt peer sample) nothing _ (sample-leaves time peer sample) (record { sends_none = refl; no_updates = refl })
       (timed_by s time (rtt_checks s time peer sample) refl refl refl h))
   by-control time tick =
-      by-checks (control time tick) allots (timed_checks s.ledger time) (tick_leaves s time (controller_ticked s.controller s.config.controller time)) refl allots-down (λ e p. refl)
-      (λ e h. ticks time (core_ticked s.controller.core s.config.controller time (any_inflated s.controller.tracker)) (passed time h))
+      by-checks (control time tick) allots (timed_checks s.ledger time) (tick_leaves s time (controller_ticked s.controller s.config.controller time)) (λ e. refl) (λ e q p. refl)
+      (λ q h. ticks time (core_ticked s.controller.core s.config.controller time (any_inflated s.controller.tracker)) (passed time h))
   by-control time (set_rate rate) =
-      by-checks (control time (set_rate rate)) allots (rate_checks s.ledger time rate)
-      (answer_with 0 true (allotted s time (controller_set s.controller s.config.controller time rate))) refl allots-down (λ e p. refl)
-      (λ e h.
+      by-checks (control time (set_rate rate)) rates (rate_checks s.ledger time rate)
+      (answer_with (Ok tt) (allotted s time (controller_set s.controller s.config.controller time rate))) (λ e. refl) (λ e q p. refl)
+      (λ q h.
       cases.allots (control time (set_rate rate)) time (controller_set s.controller s.config.controller time rate) rate refl (quiet_control time (set_rate rate))
       (timed_by s time (rate_checks s.ledger time rate) refl refl refl h))
 
   -- every call is one of the cases
   pub by_case : (x : Call) → P x (outcome s n x)
-  unfolding outcome written pool_handed registered_station handed_station
+  unfolding outcome written pool_by pool_handed registered_station handed_station
   by_case (register time id class) =
-      by-checks (register time id class) plain (register_checks s time id) (answer_with 0 false (register_leaves s time id class)) refl plain_down (λ e p. refl)
-      (λ e h. cases.registers time id class (timed_by s time (register_checks s time id) refl refl refl h) (leb-false _ _ h.1.1.1.1.1.1.1.1.1.1.1.1.1.0))
+      by-checks (register time id class) plain (register_checks s time id) (answer_with (Ok tt) (register_leaves s time id class)) (λ e. refl) (λ e q p. refl)
+      (λ q h. cases.registers time id class (timed_by s time (register_checks s time id) refl refl refl h) (leb-false _ _ (h TableFull)))
   by_case (control time steering) = by-control time steering
   by_case (hand_in time i c key bytes lent) =
-      by-checks (hand_in time i c key bytes lent) plain (hand_in_checks s (lent_length n lent) time i (length bytes)) _ refl plain_down (λ e p. rw e)
-      (λ e h.
+      by-checks (hand_in time i c key bytes lent) hands (hand_in_checks s (lent_length n lent) time i (length bytes)) _ (λ e. refl) (λ e q p. rw q)
+      (λ q h.
       cases.hands time i c key bytes lent (timed_by s time (hand_in_checks s (lent_length n lent) time i (length bytes)) refl refl refl h)
-      (leb-false _ _ h.1.1.1.1.1.1.1.1.1.1.1.0) (ltb-false _ _ h.1.1.0) h.1.1.1.1.1.1.1.0 (λ p. rw e))
+      (leb-false _ _ (h WriterUnknown)) (ltb-false _ _ (h RecordTooLong)) (h BufferTooShort) (λ p. rw q))
   by_case (send time i lent) =
       by_send s n time i lent (P (send time i lent)) (λ answer z t. cases.turned_down (send time i lent) answer z t (λ p. refl)) (cases.tries time i lent)

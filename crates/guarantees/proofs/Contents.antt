@@ -5,11 +5,14 @@ use mathlib.Core.Bool.{Bool, true, false, cond}
 use mathlib.Core.List.{List, [], ◌∷◌, ◌++◌, map}
 use mathlib.Core.Path.{◌≡◌, refl, sym, ap, ap₂, subst, ◌∙◌}
 use native.Mathlib.Omega.{arith}
-use borrow.Author.Tests.{leb-true, eqb-true}
+use borrow.Author.Tests.{ne_eqb, leb-true, eqb-true}
 use lib.Dec.{eqb, leb}
 use lib.ListN.{length, get_or, take, drop, replicate, length-append, length-take, length-drop, length-replicate}
 use lib.Seq.{length-take-le, get_or-take, get_or-drop}
-use Rattle.config.specs.Refusal.{accepted}
+use Rattle.std.specs.Prelude.{Ok, Err}
+use Rattle.config.proofs.Refusals.{Verdict, no_refusal_zero}
+use Rattle.config.specs.Refusal.{accepted, number_of}
+use Rattle.config.specs.declared.alone.Left.{Left}
 use Rattle.config.specs.declared.config.Priority.{Priority}
 use Rattle.numeric.proofs.Choice.{by_test}
 use Rattle.pacing.specs.Pool.{is_short, put, stored}
@@ -18,10 +21,9 @@ use Rattle.pacing.specs.WriterPacer.{hand_in_stored}
 use Rattle.pacing.specs.declared.coalescing.InstanceKey.{InstanceKey}
 use Rattle.pacing.specs.declared.ring.Fate.{Fate}
 use Rattle.pacing.specs.declared.ring.Fate.TheVariants.{Full, Joined, PushedOut, Replaced}
-use Rattle.station.specs.Station.{limits_in, slots_needed, left_by, turned_down, hand_in_answer, enqueued_in, hand_in_leaves, handed_station, pool_handed, sent_station}
+use Rattle.station.specs.Station.{limits_in, slots_needed, left_by, hand_in_verdict, enqueued_in, hand_in_leaves, handed_station, pool_by, pool_handed, sent_station}
 use Rattle.station.specs.declared.station.Station.{Station}
-use Rattle.station.specs.declared.station.StationAnswer.{StationAnswer}
-use Rattle.guarantees.specs.Calls.{Lent, owed, instead, Call, register, control, hand_in, send, Outcome, plain, attempts, lent_length, outcome, in_place, lent_in, written, State, state_of, answered, after, run, Answer, answers}
+use Rattle.guarantees.specs.Calls.{Lent, owed, instead, Call, register, control, hand_in, send, Outcome, hands, attempts, lent_length, outcome, in_place, lent_in, written, State, state_of, answered, after, run, Answer, answers}
 use Rattle.guarantees.specs.Theorem.{blank, blank_lent, blanked, SameAt, LentSame, put_at, bytes_in, PutSame, AllSame, Alike, Contents}
 
 -- ---- what a call lays in the pool
@@ -54,17 +56,12 @@ fate-laid PushedOut start bytes pool = refl
 fate-laid Replaced start bytes pool = refl
 
 -- so is one that the checks turn down: a record is laid exactly where the hand-in answers 0
-answer-laid : (s : Station) (a : ℕ) (x : StationAnswer) (f : Fate) (start : ℕ) (bytes pool : List ℕ) → x.answer ≡ fate_number f →
-    cond (eqb a 0) (cond (is_full f) pool (stored pool start bytes)) pool
-    ≡ laid (cond (eqb (left_by a s x).answer accepted) (at start) nowhere) bytes pool
-unfolding laid left_by
-answer-laid s a x f start bytes pool e = go (eqb a 0) refl
-  where
-    go : (t : Bool) → eqb a 0 ≡ t →
-        cond t (cond (is_full f) pool (stored pool start bytes)) pool
-        ≡ laid (cond (eqb (cond {A = StationAnswer} t x (turned_down s a)).answer accepted) (at start) nowhere) bytes pool
-    go true q = rw e (fate-laid f start bytes pool)
-    go false q = rw q
+answer-laid : (s : Station) (v : Verdict) (x : Left Station Fate) (f : Fate) (start : ℕ) (bytes pool : List ℕ) → x.answer ≡ Ok f →
+    pool_by v (cond (is_full f) pool (stored pool start bytes)) pool
+    ≡ laid (cond (eqb (hands (left_by v s x)).answer accepted) (at start) nowhere) bytes pool
+unfolding laid left_by pool_by
+answer-laid s (Ok u) x f start bytes pool e = rw e (fate-laid f start bytes pool)
+answer-laid s (Err r) x f start bytes pool e = rw (ne_eqb (number_of r) accepted (no_refusal_zero r))
 
 -- what a call writes is its record laid
 written-laid : (s : Station) (n : ℕ) (x : Call) (pool : List ℕ) → written s n x pool ≡ laid (spot s n x) (bytes_in x) pool
@@ -72,7 +69,7 @@ unfolding written laid spot outcome pool_handed hand_in_stored handed_station
 written-laid s n (register time id class) pool = refl
 written-laid s n (control time steering) pool = refl
 written-laid s n (hand_in time i c key bytes lent) pool =
-    answer-laid s (hand_in_answer s (lent_length n lent) time i (length bytes))
+    answer-laid s (hand_in_verdict s (lent_length n lent) time i (length bytes))
     (hand_in_leaves s time i c key (length bytes) (enqueued_in s i c key)) (enqueued_in s i c key).kept.fate (put_at s i c key) bytes pool refl
 written-laid s n (send time i lent) pool = refl
 
@@ -106,8 +103,8 @@ blank_again (instead pool) = ap (λ (n : ℕ). instead (replicate n 0)) (length-
 abbrev hand_read : Station → ℕ → ℕ → Priority → InstanceKey → ℕ → ℕ → Lent → Read
 hand_read s time i c key pool n lent =
     record {
-      outcome_is = plain (handed_station s pool time i c key n);
-      spot_is = cond (eqb (handed_station s pool time i c key n).answer accepted) (at (put_at s i c key)) nowhere;
+      outcome_is = hands (handed_station s pool time i c key n);
+      spot_is = cond (eqb (hands (handed_station s pool time i c key n)).answer accepted) (at (put_at s i c key)) nowhere;
       bytes_are = n;
       lent_is = lent;
     }

@@ -1,11 +1,11 @@
 -- The settled examples hold: each row by computation. Assumes nothing.
 use mathlib.Core.Path.{refl}
 use lib.Ieee.{of_int, of_bits, to_bits, add, sub, mul, div, lt, le, to_unsigned, is_nan}
-use Rattle.config.specs.Refusal.{answer_of}
+use Rattle.config.specs.Refusal.{verdict_of}
 use Rattle.control.specs.BudgetAllocator.{weights_from, reserve_of, split_of, left_from, shares_of, allotted_table, distributed_from, reallocated}
 use Rattle.control.specs.Controller.{new_core, on_inflated, on_window, steered, core_ticked, new_controller, sampled, controller_ticked, full_for_peer}
 use Rattle.control.specs.Controller as controller
-use Rattle.control.specs.ControllerAlone.{left_by, signalled_alone, eagain_alone, sampled_alone, ticked_alone}
+use Rattle.control.specs.ControllerAlone.{signalled_alone, eagain_alone, sampled_alone, ticked_alone}
 use Rattle.control.specs.Metrics.{change_recorded}
 use Rattle.control.specs.RateController.{decreased, gained_from, lost_from, softened, hardened, with_params, changed_to, applied}
 use Rattle.control.specs.Scorer.{added_if, impulse_of, tick_measured, congestion_measured, congested_for, on_rtt_inflated, in_cooldown, can_increase, congested_at, evaluated_stable, evaluated_congested, evaluated, ticked}
@@ -26,5 +26,5 @@ use Rattle.signals.specs.RttEstimatorAlone.{sample_out}
 use Rattle.guarantees.specs.Examples.{table, IsSettled}
 
 pub settled : IsSettled table
-unfolding scaled of_int of_bits to_bits add sub mul div lt le to_unsigned is_nan recorded responded counted window_signals closed processed_tos updated joined joined_all credit wait_of refilled tried told answer_of first found inserted exchanged insert_noted entries.counted look entered is_short roomy next_slot joins placed forced placed_in enqueue_p0 enqueue_p1 enqueue_p2 enqueue front_of gone attempt_p0 paid waited limited attempt hand_in_noted sent_noted send_noted hand_in_written handed_by words_handed_by attempt_by sent_by words_sent_by handed_alone sent_alone inflated place_of tracker_updated full_for any_inflated sample_out weights_from reserve_of split_of left_from shares_of allotted_table distributed_from reallocated controller.on_eagain new_core on_inflated on_window steered core_ticked new_controller sampled controller_ticked full_for_peer left_by signalled_alone eagain_alone sampled_alone ticked_alone decreased gained_from lost_from softened hardened with_params changed_to applied change_recorded scorer.on_eagain added_if impulse_of tick_measured congestion_measured congested_for on_rtt_inflated in_cooldown can_increase congested_at evaluated_stable evaluated_congested evaluated ticked
+unfolding scaled of_int of_bits to_bits add sub mul div lt le to_unsigned is_nan recorded responded counted window_signals closed processed_tos updated joined joined_all credit wait_of refilled tried told verdict_of first found inserted exchanged insert_noted entries.counted look entered is_short roomy next_slot joins placed forced placed_in enqueue_p0 enqueue_p1 enqueue_p2 enqueue front_of gone attempt_p0 paid waited limited attempt hand_in_noted sent_noted send_noted hand_in_written handed_by words_handed_by attempt_by sent_by words_sent_by handed_alone sent_alone inflated place_of tracker_updated full_for any_inflated sample_out weights_from reserve_of split_of left_from shares_of allotted_table distributed_from reallocated controller.on_eagain new_core on_inflated on_window steered core_ticked new_controller sampled controller_ticked full_for_peer signalled_alone eagain_alone sampled_alone ticked_alone decreased gained_from lost_from softened hardened with_params changed_to applied change_recorded scorer.on_eagain added_if impulse_of tick_measured congestion_measured congested_for on_rtt_inflated in_cooldown can_increase congested_at evaluated_stable evaluated_congested evaluated ticked
 settled = (refl, (refl, (refl, (refl, (refl, (refl, (refl, (refl, (refl, (refl, (refl, (refl, (refl, (refl, (refl, tt)))))))))))))))

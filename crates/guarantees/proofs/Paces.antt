@@ -143,41 +143,41 @@ pays-nothing i (hand_in time j class key bytes lent) = refl
 -- what pacer i sends by a call that does not set its rate is covered
 module _ (i : ℕ) (s : Station) (ok : IsTicking s) where
   -- the bucket of pacer i in a station
-  abbrev tokensIn : Station → TokenBucket
-  tokensIn t = (pacer_in t i).tokens
+  abbrev tokens_in : Station → TokenBucket
+  tokens_in t = (pacer_in t i).tokens
 
   abbrev CoversIn : Call → Outcome → Type 0
   CoversIn x o =
       sets_by i s x o ≡ false
-      → Covers (tokensIn s) (tokensIn o.station) (paid_by i x o.reply) (refill_of (tokensIn s) (tokensIn o.station))
+      → Covers (tokens_in s) (tokens_in o.station) (paid_by i x o.reply) (refill_of (tokens_in s) (tokens_in o.station))
 
   -- a bucket that stays has sent nothing
-  still : (b : TokenBucket) (bytes : ℕ) → tokensIn s ≡ b → bytes ≡ 0 → Covers (tokensIn s) b bytes (refill_of (tokensIn s) b)
+  still : (b : TokenBucket) (bytes : ℕ) → tokens_in s ≡ b → bytes ≡ 0 → Covers (tokens_in s) b bytes (refill_of (tokens_in s) b)
   still b bytes e z = rw (z, refill-same e) (covers_same e)
 
   registered-covers :
       (time id : ℕ) (class : Priority) → i ≢ s.roster.count
-      → Covers (tokensIn s) (tokensIn (register_leaves s time id class)) 0 (refill_of (tokensIn s) (tokensIn (register_leaves s time id class)))
+      → Covers (tokens_in s) (tokens_in (register_leaves s time id class)) 0 (refill_of (tokens_in s) (tokens_in (register_leaves s time id class)))
   unfolding register_leaves
   registered-covers time id class ne = still _ 0 (ap (λ (w : Writer). w.pacer.tokens) (sym (joined_other s.roster _ i ne))) refl
 
   handed-covers :
       (time j : ℕ) (p : PacerCore) (words : List ℕ) → j < s.roster.count → p.tokens ≡ (pacer_in s j).tokens
-      → Covers (tokensIn s) (tokensIn (paced s time j p words)) 0 (refill_of (tokensIn s) (tokensIn (paced s time j p words)))
+      → Covers (tokens_in s) (tokens_in (paced s time j p words)) 0 (refill_of (tokens_in s) (tokens_in (paced s time j p words)))
   handed-covers time j p words lo same =
-      by_seat (λ (q : PacerCore). Covers (tokensIn s) q.tokens 0 (refill_of (tokensIn s) q.tokens)) s.roster j p i ok.seated lo
+      by_seat (λ (q : PacerCore). Covers (tokens_in s) q.tokens 0 (refill_of (tokens_in s) q.tokens)) s.roster j p i ok.seated lo
       (λ e. still p.tokens 0 (ap (λ (x : ℕ). (pacer_in s x).tokens) e ∙ sym same) refl)
-      (λ ne. still (tokensIn s) 0 refl refl)
+      (λ ne. still (tokens_in s) 0 refl refl)
 
   tried-covers :
       (time j : ℕ) (lent : Lent) → Timed s time → j < s.roster.count
       → let t : Station = paced s time j (attempt_in s time j).core (send_noted s.words j (attempt_in s time j).action) in
-      Covers (tokensIn s) (tokensIn t) (paid_by i (send time j lent) (action (attempt_in s time j).action)) (refill_of (tokensIn s) (tokensIn t))
+      Covers (tokens_in s) (tokens_in t) (paid_by i (send time j lent) (action (attempt_in s time j).action)) (refill_of (tokens_in s) (tokens_in t))
   unfolding paid_by
   tried-covers time j lent h lo =
       by_seat
       (λ (q : PacerCore).
-      Covers (tokensIn s) q.tokens (paid_by i (send time j lent) (action (attempt_in s time j).action)) (refill_of (tokensIn s) q.tokens))
+      Covers (tokens_in s) q.tokens (paid_by i (send time j lent) (action (attempt_in s time j).action)) (refill_of (tokens_in s) q.tokens))
       s.roster j (attempt_in s time j).core i ok.seated lo
       (λ e.
       rw (eq-eqb j i (sym e))
@@ -186,7 +186,7 @@ module _ (i : ℕ) (s : Station) (ok : IsTicking s) where
       Covers (pacer_in s x).tokens (attempt_in s time j).core.tokens (paid_as (attempt_in s time j).action) (refill_of (pacer_in s x).tokens (attempt_in s time j).core.tokens))
       (sym e)
       (attempt-allowance s.config.pacer.enabled (pacer_in s j) s.words j time s.ledger.last (ok.buckets j lo) h.ahead)))
-      (λ ne. rw (ne_eqb j i (λ (e : j ≡ i). ne (sym e))) (still (tokensIn s) 0 refl refl))
+      (λ ne. rw (ne_eqb j i (λ (e : j ≡ i). ne (sym e))) (still (tokens_in s) 0 refl refl))
 
   pub covers_outcome : (n : ℕ) (x : Call) → CoversIn x (outcome s n x)
   unfolding sets_by paid_by
@@ -195,8 +195,8 @@ module _ (i : ℕ) (s : Station) (ok : IsTicking s) where
       cases : Cases s n CoversIn
       cases =
           record {
-            turned_down = λ y answer z t same e. still (tokensIn s) _ refl (pays-nothing i y);
-            steers = λ y time reply c same q silent h e. still (tokensIn s) _ refl (q.pays i reply);
+            turned_down = λ y answer z t same e. still (tokens_in s) _ refl (pays-nothing i y);
+            steers = λ y time reply c same q silent h e. still (tokens_in s) _ refl (q.pays i reply);
             allots = λ y time c rate is q h e. absurd (true≢false e);
             registers = λ time id class h lo e. registered-covers time id class (eqb-false _ _ e);
             hands = λ time j c key bytes lent h lo short wide puts e.

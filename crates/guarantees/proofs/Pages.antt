@@ -7,6 +7,7 @@ use mathlib.Core.Path.{◌≡◌, refl, sym, ap, subst, ◌∙◌}
 use native.Mathlib.Omega.{arith}
 use borrow.Author.Tests.{ltb-false}
 use lib.ListN.{length, get_or, take}
+use Rattle.std.proofs.lemmas.List.{nil_from_length}
 use Rattle.config.specs.declared.config.Priority.{Priority}
 use Rattle.config.specs.declared.config.Priority.TheVariants.{P0, P1, P2}
 use Rattle.pacing.proofs.Rings.{length_contents}
@@ -239,10 +240,6 @@ module _ (m : Limits) (k : Kept) (x : Call) (xs : List Call) (ok : OwedPool m k 
 
 -- ---- a first pool that is too short: every hand-in and send attempt is turned down, and nothing waits
 
-pub empty_list : {A : Type 0} (xs : List A) → length xs ≡ 0 → xs ≡ []
-empty_list [] e = refl
-empty_list (x ∷ xs) e = absurd (omega arith)
-
 record IsShortPool (m : Limits) (k : Kept) (xs : List Call) : Type 0 where
   some : SomePool m k
   short : is_short (length k.state.pool) (slots_needed m) ≡ true
@@ -319,7 +316,7 @@ module _ (m : Limits) (k : Kept) (x : Call) (xs : List Call) (ok : IsShortPool m
 short_holds : (m : Limits) (k : Kept) (xs : List Call) → IsShortPool m k xs → HoldsBytes k
 unfolding waiting
 short_holds m k xs ok i lo c =
-    empty_list _
+    nil_from_length _
     (length_contents (held (limits_in s) i c s.words k.state.pool) (ring_of (pacer_in s i).queues c)
     ∙ count_is m i (parts_of (pacer_in s i) s.words ok.some.pool) (k.book i) (ok.some.sound.pages i lo) no_key c
     ∙ ap length (ok.idle i c))

@@ -2,17 +2,24 @@
 use Prim.Native.Nat.{ℕ, ◌≤◌}
 use mathlib.Core.Bool.{Bool, true, false, true≢false, cond, ◌||◌}
 use mathlib.Core.List.{List, []}
-use mathlib.Core.Path.{◌≡◌, refl}
+use mathlib.Core.Path.{◌≡◌, refl, sym, ap}
 use native.Mathlib.Omega.{arith}
-use borrow.Author.Tests.{eqb-true, eqb-false, ltb-false, not-false}
-use lib.Dec.{ltb, eqb}
+use borrow.Author.Tests.{ltb-false}
+use lib.Dec.{ltb}
 use lib.ListN.{length}
-use Rattle.config.proofs.Refusals.{NoneOf, none_where_accepted}
-use Rattle.config.specs.Config.{making_checks, failed_check, rates_beyond, floats_beyond, limit_beyond, queues_beyond}
-use Rattle.config.specs.Refusal.{order, answer_of, accepted}
+use Rattle.std.proofs.lemmas.Bool.{or_parts}
+use Rattle.std.specs.Prelude.{Result, Ok, Err, is_err}
+use Rattle.std.specs.Result.{result_unwrap_or}
+use Rattle.config.proofs.Refusals.{Verdict, NoneApplies, none_where_accepted}
+use Rattle.config.specs.Config.{making_checks, is_invalid, failed_check, rates_beyond, floats_beyond, limit_beyond, queues_beyond}
+use Rattle.config.specs.Refusal.{verdict_of}
 use Rattle.config.specs.declared.config.CongestionConfig.{CongestionConfig}
+use Rattle.config.specs.declared.config.InvalidSetting.{InvalidSetting}
+use Rattle.config.specs.declared.config.InvalidSetting.TheVariants.{Rates}
 use Rattle.config.specs.declared.config.Priority.{Priority}
 use Rattle.config.specs.declared.config.Priority.TheVariants.{P0, P1, P2}
+use Rattle.config.specs.declared.refusal.Refusal.{Refusal}
+use Rattle.config.specs.declared.refusal.Refusal.TheVariants.{SettingsInvalid, SettingsBeyond}
 use Rattle.control.proofs.Writers.{in_order}
 use Rattle.control.specs.Controller.{new_controller}
 use Rattle.pacing.proofs.Records.{IsLimited, stored_new, get_or-zeros, length-zeros}
@@ -20,8 +27,8 @@ use Rattle.pacing.specs.Entries.{most_of}
 use Rattle.pacing.specs.Pool.{bytes_of, limit_of, limits_of}
 use Rattle.pacing.specs.Records.{limit_in}
 use Rattle.pacing.specs.WriterPacer.{count_at}
-use Rattle.station.specs.Station.{slots_needed, station_config_of, new_station, zero_station, made_station, answer_with, turned_down}
-use Rattle.station.specs.declared.station.StationAnswer.{StationAnswer}
+use Rattle.station.specs.Station.{slots_needed, station_config_of, new_station, made_by, made_station}
+use Rattle.station.specs.declared.station.Station.{Station}
 use Rattle.guarantees.specs.Book.{empty_book}
 use Rattle.guarantees.proofs.Budgets.{IsKnown}
 use Rattle.guarantees.proofs.Fates.{balanced_empty}
@@ -37,70 +44,63 @@ pub record Domain (c : CongestionConfig) : Type 0 where
 
 -- ---- checks that none applies
 
-or_left : (a b : Bool) → a || b ≡ false → a ≡ false
-or_left true b e = e
-or_left false b e = refl
-
-or_right : (a b : Bool) → a || b ≡ false → b ≡ false
-or_right true b e = absurd (true≢false e)
-or_right false b e = e
-
 -- `validate`'s first check: the largest rate is not below the least
-rates_ordered : (c : CongestionConfig) → failed_check c ≡ 0 → c.min_rate_bps ≤ c.max_rate_bps
+rates_ordered : (c : CongestionConfig) → is_invalid (failed_check c) ≡ false → c.min_rate_bps ≤ c.max_rate_bps
 unfolding failed_check
 rates_ordered c e = ltb-false _ _ (go (ltb c.max_rate_bps c.min_rate_bps) _ e)
   where
-    go : (t : Bool) (rest : ℕ) → cond t 1 rest ≡ 0 → t ≡ false
-    go true rest e = absurd (omega arith)
+    go : (t : Bool) (rest : Result Unit InvalidSetting) → is_invalid (cond t (Err Rates) rest) ≡ false → t ≡ false
+    go true rest e = absurd (true≢false e)
     go false rest e = refl
 
 -- a limit in its range
 module _ (limit most : ℕ) (e : limit_beyond limit most ≡ false) where
   limit-least : 1 ≤ limit
   unfolding limit_beyond
-  limit-least = ltb-false _ _ (or_left (ltb limit 1) (ltb most limit) e)
+  limit-least = ltb-false _ _ (or_parts (ltb limit 1) (ltb most limit) e).0
 
   limit-most : limit ≤ most
   unfolding limit_beyond
-  limit-most = ltb-false _ _ (or_right (ltb limit 1) (ltb most limit) e)
+  limit-most = ltb-false _ _ (or_parts (ltb limit 1) (ltb most limit) e).1
 
-module _ (c : CongestionConfig) (time : ℕ) (made : (made_station c time).answer ≡ accepted) where
-  passed : eqb (answer_of (making_checks c time)) 0 ≡ true
-  unfolding made_station
-  passed = go (eqb (answer_of (making_checks c time)) 0) refl made
+-- what made a station accepted the settings, and the station is a new one
+module _ (c : CongestionConfig) (time : ℕ) (s : Station) (made : made_station c time ≡ Ok s) where
+  abbrev new : Station
+  new = new_station (station_config_of c) time
+
+  passed : (verdict_of (making_checks c time) ≡ Ok tt) × (s ≡ new)
+  unfolding made_station made_by
+  passed = go (verdict_of (making_checks c time)) refl made
     where
-      go :
-          (t : Bool) → eqb (answer_of (making_checks c time)) 0 ≡ t
-          → (cond {A = StationAnswer} t (answer_with 0 false (new_station (station_config_of c) time)) (turned_down zero_station (answer_of (making_checks c time)))).answer ≡ 0
-          → t ≡ true
-      go true q e = refl
-      go false q e = absurd (eqb-false _ _ q e)
+      go : (v : Verdict) → verdict_of (making_checks c time) ≡ v → made_by v new ≡ Ok s → (verdict_of (making_checks c time) ≡ Ok tt) × (s ≡ new)
+      go (Ok u) q e = (q, sym (ap (λ (r : Result Station Refusal). result_unwrap_or r new) e))
+      go (Err r) q e = absurd (true≢false (ap is_err e))
 
-  pub station_is : (made_station c time).station ≡ new_station (station_config_of c) time
-  unfolding made_station
-  station_is = rw passed
+  pub station_is : s ≡ new
+  station_is = passed.1
 
-  none : NoneOf order (making_checks c time)
-  none = none_where_accepted (making_checks c time) (eqb-true _ _ passed)
+  none : NoneApplies (making_checks c time)
+  none = none_where_accepted (making_checks c time) passed.0
 
   rates : rates_beyond c ≡ false
-  rates = or_left (rates_beyond c) (floats_beyond c || queues_beyond c) none.1.0
+  rates = (or_parts (rates_beyond c) (floats_beyond c || queues_beyond c) (none SettingsBeyond)).0
 
   queues : queues_beyond c ≡ false
-  queues = or_right (floats_beyond c) (queues_beyond c) (or_right (rates_beyond c) (floats_beyond c || queues_beyond c) none.1.0)
+  queues =
+      (or_parts (floats_beyond c) (queues_beyond c) (or_parts (rates_beyond c) (floats_beyond c || queues_beyond c) (none SettingsBeyond)).1).1
 
   -- ---- the domain
 
   rates-least : 1 ≤ c.min_rate_bps
   unfolding rates_beyond
-  rates-least = ltb-false _ _ (or_left (ltb c.min_rate_bps 1) _ rates)
+  rates-least = ltb-false _ _ (or_parts (ltb c.min_rate_bps 1) _ rates).0
 
   rates-most : c.max_rate_bps ≤ 1000000000
   unfolding rates_beyond
   rates-most =
       ltb-false _ _
-      (or_left (ltb 1000000000 c.max_rate_bps) _
-      (or_right (ltb 1000000000 c.min_rate_bps) _ (or_right (ltb c.min_rate_bps 1) _ rates)))
+      (or_parts (ltb 1000000000 c.max_rate_bps) _
+      (or_parts (ltb 1000000000 c.min_rate_bps) _ (or_parts (ltb c.min_rate_bps 1) _ rates).1).1).0
 
   limit-in : (limit most : ℕ) → most ≤ 65535 → limit_beyond limit most ≡ false → (1 ≤ limit_of limit) × (limit_of limit ≤ most)
   limit-in limit most h e = (omega (arith, limit-least limit most e, limit-most limit most e), omega (arith, limit-most limit most e))
@@ -108,8 +108,8 @@ module _ (c : CongestionConfig) (time : ℕ) (made : (made_station c time).answe
   queue-limits : (limit_beyond c.max_queue_p0 128 ≡ false) × ((limit_beyond c.max_queue_p1 512 ≡ false) × (limit_beyond c.max_queue_p2 128 ≡ false))
   unfolding queues_beyond
   queue-limits =
-      let rest = or_right (limit_beyond c.max_queue_p0 128) _ queues in
-      (or_left (limit_beyond c.max_queue_p0 128) _ queues, (or_left (limit_beyond c.max_queue_p1 512) _ rest, or_right (limit_beyond c.max_queue_p1 512) _ rest))
+      let all = or_parts (limit_beyond c.max_queue_p0 128) _ queues in
+      (all.0, or_parts (limit_beyond c.max_queue_p1 512) _ all.1)
 
   limits-in : (d : Priority) → (1 ≤ limit_in (limits_of c) d) × (limit_in (limits_of c) d ≤ most_of d)
   limits-in P0 = limit-in c.max_queue_p0 128 (omega arith) queue-limits.0
@@ -120,7 +120,7 @@ module _ (c : CongestionConfig) (time : ℕ) (made : (made_station c time).answe
   domain =
       record {
         least = rates-least;
-        ordered = rates_ordered c (eqb-true _ _ (not-false (eqb (failed_check c) 0) none.0));
+        ordered = rates_ordered c (none SettingsInvalid);
         most = rates-most;
         limited = record { least = λ d. (limits-in d).0; most = λ d. (limits-in d).1 };
       }

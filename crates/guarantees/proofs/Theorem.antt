@@ -4,7 +4,7 @@ use mathlib.Core.List.{List}
 use mathlib.Core.Path.{◌≡◌, refl, sym, subst}
 use native.Mathlib.Omega.{arith}
 use lib.ListN.{length, replicate}
-use Rattle.config.specs.Refusal.{accepted}
+use Rattle.std.specs.Prelude.{Ok}
 use Rattle.config.specs.declared.config.CongestionConfig.{CongestionConfig}
 use Rattle.pacing.proofs.Records.{length-zeros}
 use Rattle.pacing.specs.Pool.{bytes_of, limits_of}
@@ -20,21 +20,21 @@ use Rattle.guarantees.proofs.Sound.{IsSound}
 use Rattle.guarantees.proofs.Starts.{station_is, domain, sound_new, ticking_new, known_new}
 use Rattle.guarantees.proofs.Waits.{waits}
 
-module _ (c : CongestionConfig) (time : ℕ) (made : (made_station c time).answer ≡ accepted) where
+module _ (c : CongestionConfig) (time : ℕ) (s : Station) (made : made_station c time ≡ Ok s) where
   -- a station just made is sound over any pool that is long enough
-  sound-made : (pool : List ℕ) → bytes_of (slots_needed (limits_of c)) ≤ length pool → IsSound (limits_of c) pool (made_station c time).station empty_book
+  sound-made : (pool : List ℕ) → bytes_of (slots_needed (limits_of c)) ≤ length pool → IsSound (limits_of c) pool s empty_book
   sound-made pool wide =
-      subst (λ (s : Station). IsSound (limits_of c) pool s empty_book) (sym (station_is c time made))
-      (sound_new c time pool (domain c time made) wide)
+      subst (λ (t : Station). IsSound (limits_of c) pool t empty_book) (sym (station_is c time s made))
+      (sound_new c time pool (domain c time s made) wide)
 
-  ticking-made : IsTicking (made_station c time).station
-  ticking-made = subst IsTicking (sym (station_is c time made)) (ticking_new c time (domain c time made))
+  ticking-made : IsTicking s
+  ticking-made = subst IsTicking (sym (station_is c time s made)) (ticking_new c time (domain c time s made))
 
-  known-made : IsKnown (made_station c time).station
-  known-made = subst IsKnown (sym (station_is c time made)) (known_new c time)
+  known-made : IsKnown s
+  known-made = subst IsKnown (sym (station_is c time s made)) (known_new c time)
 
   -- whatever pool is lent first, as if over a pool of zeros
-  some-made : (pool : List ℕ) → SomePool (limits_of c) (started c time pool)
+  some-made : (pool : List ℕ) → SomePool (limits_of c) (started s pool)
   some-made pool =
       record { pool = replicate needed 0; sound = sound-made (replicate needed 0) (rw (length-zeros needed) (omega arith)) }
     where
@@ -42,14 +42,14 @@ module _ (c : CongestionConfig) (time : ℕ) (made : (made_station c time).answe
       needed = bytes_of (slots_needed (limits_of c))
 
 pub theorem : Theorem
-theorem c time pool made calls =
+theorem c time pool s made calls =
     record {
-      fates = fates (limits_of c) (started c time pool) calls (some-made c time made pool) (λ i d. refl) (sound-made c time made pool);
+      fates = fates (limits_of c) (started s pool) calls (some-made c time s made pool) (λ i d. refl) (sound-made c time s made pool);
       allowance =
           record {
-            settings = settings (limits_of c) (started c time pool) (known-made c time made) calls;
-            within = allowance (started c time pool).state (ticking-made c time made) calls;
+            settings = settings (limits_of c) (started s pool) (known-made c time s made) calls;
+            within = allowance (started s pool).state (ticking-made c time s made) calls;
           };
-      waits = waits (limits_of c) (started c time pool) calls (some-made c time made pool) (ticking-made c time made);
-      contents = contents (started c time pool).state calls;
+      waits = waits (limits_of c) (started s pool) calls (some-made c time s made pool) (ticking-made c time s made);
+      contents = contents (started s pool).state calls;
     }

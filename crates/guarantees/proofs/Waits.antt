@@ -7,6 +7,7 @@ use mathlib.Core.Logic.{◌≢◌}
 use mathlib.Core.Path.{◌≡◌, refl, sym, ap, subst, ◌∙◌}
 use native.Mathlib.Omega.{arith}
 use lib.ListN.{length, take}
+use Rattle.std.proofs.lemmas.List.{nil_from_length}
 use Rattle.config.specs.Refusal.{accepted}
 use Rattle.config.specs.declared.config.Priority.{Priority}
 use Rattle.pacing.proofs.Records.{Matches}
@@ -33,7 +34,7 @@ use Rattle.guarantees.specs.Theorem as theorem
 use Rattle.guarantees.proofs.Changes.{Timed, Cases, by_case, by_send}
 use Rattle.guarantees.proofs.HandIns.{page_view, count_is}
 use Rattle.guarantees.proofs.Paces.{IsTicking, ticking_run}
-use Rattle.guarantees.proofs.Pages.{empty_list, SomePool, some_step, kept_to}
+use Rattle.guarantees.proofs.Pages.{SomePool, some_step, kept_to}
 use Rattle.guarantees.proofs.Rosters.{pacer-same}
 use Rattle.guarantees.proofs.Sound.{IsSound}
 use Rattle.guarantees.proofs.Tokens.{GoesAt, wait_enabled, wait_queues, wait_goes}
@@ -172,7 +173,7 @@ module _
           head = head_of go.class;
           is_first = first_is go.class go.some;
           none_before = λ d lt.
-              empty_list ((b i).queues d).waiting
+              nil_from_length ((b i).queues d).waiting
               (sym (count_is m i (parts_of p s.words g) (b i) matches no_key d) ∙ go.none_before d lt);
           worked_out = go.worked_out;
           slot = slot_at (ring_of q.queues go.class) 0;

@@ -1,15 +1,19 @@
 -- Lists of calls on a station: the calls with all their arguments, what each answers, shows and leaves, and runs of lists. Definitions only.
-use Rattle.std.specs.Prelude.{ℕ, Bool, cond, List, [], ◌∷◌, eqb, Float, length}
+use Rattle.std.specs.Prelude.{ℕ, Bool, cond, List, [], ◌∷◌, Float, length, Result, Ok, Err}
+use Rattle.config.specs.Refusal.{accepted, none_number, result_number}
+use Rattle.config.specs.declared.alone.Left.{Left}
 use Rattle.config.specs.declared.config.Priority.{Priority}
+use Rattle.config.specs.declared.refusal.Refusal.{Refusal}
 use Rattle.control.specs.BudgetAllocator.{writers_of}
 use Rattle.control.specs.declared.budget_allocator.WriterInfo.{WriterInfo}
 use Rattle.pacing.specs.Pool.{is_short}
+use Rattle.pacing.specs.Ring.{fate_number}
+use Rattle.pacing.specs.WriterPacer.{action_number}
 use Rattle.pacing.specs.declared.coalescing.InstanceKey.{InstanceKey}
+use Rattle.pacing.specs.declared.ring.Fate.{Fate}
 use Rattle.pacing.specs.declared.writer_pacer.SendAction.{SendAction}
 use Rattle.station.specs.Station.{limits_in, slots_needed, registered_station, eagain_station, nacks_station, tos_station, rtt_station, ticked_station, rated_station, handed_station, pool_handed, sent_station, shown_bytes}
 use Rattle.station.specs.declared.station.Station.{Station}
-use Rattle.station.specs.declared.station.StationAnswer.{StationAnswer}
-use Rattle.station.specs.declared.station.StationSent.{StationSent}
 
 -- ---- calls
 
@@ -55,23 +59,40 @@ pub record Outcome : Type 0 where
 abbrev pub outcome_of : ℕ → Reply → Station → Outcome
 outcome_of answer reply s = record { answer = answer; reply = reply; station = s }
 
-abbrev pub plain : StationAnswer → Outcome
-plain x = outcome_of x.answer nothing x.station
-
 -- a call turned down tells nothing
-abbrev pub signals : StationAnswer → Outcome
-signals x = outcome_of x.answer (cond (eqb x.answer 0) (signal x.told) nothing) x.station
+abbrev pub reply_by : {T : Type 0} → (T → Reply) → Result T Refusal → Reply
+reply_by reply (Ok t) = reply t
+reply_by reply (Err e) = nothing
+
+-- a call's outcome, from what it leaves and answers: the number of the answer, and what it tells
+abbrev pub outcome_by : {T : Type 0} → (T → ℕ) → (T → Reply) → Left Station T → Outcome
+outcome_by number reply x = outcome_of (result_number number x.answer) (reply_by reply x.answer) x.state
+
+-- a call that gives nothing back
+abbrev pub plain : Left Station Unit → Outcome
+plain x = outcome_by none_number (λ u. nothing) x
+
+abbrev pub signals : Left Station Bool → Outcome
+signals x = outcome_by (λ b. accepted) signal x
 
 -- the rows that the allocator shows
 abbrev pub rows_of : Station → List WriterInfo
 rows_of s = writers_of s.controller.allocator.table
 
-abbrev pub allots : StationAnswer → Outcome
-allots x =
-    outcome_of x.answer (cond (eqb x.answer 0) (cond x.told (updates (rows_of x.station)) unchanged) nothing) x.station
+-- a tick: the rows where the rate changed
+abbrev pub allots : Left Station Bool → Outcome
+allots x = outcome_by (λ b. accepted) (λ b. cond b (updates (rows_of x.state)) unchanged) x
 
-abbrev pub attempts : StationSent → Outcome
-attempts x = outcome_of x.answer (cond (eqb x.answer 0) (action x.action) nothing) x.station
+-- a rate setting: the rows whether it changed or not
+abbrev pub rates : Left Station Unit → Outcome
+rates x = outcome_by none_number (λ u. updates (rows_of x.state)) x
+
+-- a hand-in tells its number alone: 12 where the record found its queue full
+abbrev pub hands : Left Station Fate → Outcome
+hands x = outcome_by fate_number (λ f. nothing) x
+
+abbrev pub attempts : Left Station SendAction → Outcome
+attempts x = outcome_by action_number action x
 
 -- ---- one call on a station and its pool
 
@@ -87,13 +108,13 @@ controlled s time (tos byte) = signals (tos_station s time byte)
 controlled s time (nacks count) = plain (nacks_station s time count)
 controlled s time (rtt peer sample) = plain (rtt_station s time peer sample)
 controlled s time tick = allots (ticked_station s time)
-controlled s time (set_rate rate) = allots (rated_station s time rate)
+controlled s time (set_rate rate) = rates (rated_station s time rate)
 
 -- what a call answers; of the pool and of a record it takes the length alone
 unfoldable pub outcome : Station → ℕ → Call → Outcome
 outcome s n (register time id class) = plain (registered_station s time id class)
 outcome s n (control time steering) = controlled s time steering
-outcome s n (hand_in time i class key bytes lent) = plain (handed_station s (lent_length n lent) time i class key (length bytes))
+outcome s n (hand_in time i class key bytes lent) = hands (handed_station s (lent_length n lent) time i class key (length bytes))
 outcome s n (send time i lent) = attempts (sent_station s (lent_length n lent) time i)
 
 -- The pool in place once a call was lent one: a pool too short is turned down, and the one before it stays.

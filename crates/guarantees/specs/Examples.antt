@@ -3,8 +3,11 @@
 use Rattle.std.specs.Prelude.{ℕ, Bool, true, false, List, [], ◌∷◌, ◌++◌, ◌≡◌, Float, pos, negsuc, replicate}
 use Rattle.std.specs.Float.{fin, binary32}
 use Rattle.std.specs.Float.Ieee.{of_int, of_bits, to_bits}
+use Rattle.std.specs.Result.{result_unwrap_or}
 use Rattle.config.specs.Config.{defaults}
 use Rattle.config.specs.Ledger.{opened}
+use Rattle.config.specs.Refusal.{accepted, none_number, result_number}
+use Rattle.config.specs.declared.alone.Left.{Left as CallLeft}
 use Rattle.config.specs.declared.config.Priority.{Priority}
 use Rattle.config.specs.declared.config.Priority.TheVariants.{P0, P1, P2}
 use Rattle.control.specs.BudgetAllocator.{allocation_config_of}
@@ -12,18 +15,20 @@ use Rattle.control.specs.ControllerAlone.{made_of, eagain_alone, sampled_alone, 
 use Rattle.control.specs.RateController.{params_of}
 use Rattle.control.specs.Scorer.{scorer_config_of}
 use Rattle.control.specs.declared.controller.CongestionControllerAlone.{CongestionControllerAlone}
-use Rattle.control.specs.declared.controller.ControllerAnswer.{ControllerAnswer}
 use Rattle.control.specs.declared.controller.ControllerConfig.{ControllerConfig}
 use Rattle.control.specs.declared.controller.ControllerCore.{ControllerCore}
 use Rattle.control.specs.declared.rate_controller.RateParams.{RateParams}
 use Rattle.pacing.specs.Coalescing.{fnv1a}
 use Rattle.pacing.specs.Pool.{bytes_of, slots_of}
+use Rattle.pacing.specs.Ring.{fate_number}
 use Rattle.pacing.specs.TokenBucket.{made, refilled, tried, told}
 use Rattle.pacing.specs.WriterPacer as pacing
 use Rattle.pacing.specs.WriterPacerAlone.{pacer_alone_of, handed_alone, sent_alone}
 use Rattle.pacing.specs.declared.coalescing.InstanceKey.{InstanceKey}
 use Rattle.pacing.specs.declared.pool.Limits.{Limits}
 use Rattle.pacing.specs.declared.token_bucket.TokenBucket.{TokenBucket}
+use Rattle.pacing.specs.declared.writer_pacer.SendAction.{SendAction}
+use Rattle.pacing.specs.declared.writer_pacer.SendAction.TheVariants.{Empty}
 use Rattle.pacing.specs.declared.writer_pacer.WriterPacerAlone.{WriterPacerAlone}
 use Rattle.signals.specs.Ecn.{codepoint_of, new_processor, processed_tos}
 use Rattle.signals.specs.RttEstimator.{new_estimator, updated, rto_of}
@@ -141,12 +146,15 @@ abbrev key_number : ℕ → InstanceKey
 key_number k = record { topic_hash = k; key_hash = 0 }
 
 abbrev acted : WriterPacerAlone → Act → WriterPacerAlone
-acted a (hand c key n) = (handed_alone a (pool_bytes a) 0 c (key_number key) n).alone
-acted a send = (sent_alone a (pool_bytes a) 0).alone
+acted a (hand c key n) = (handed_alone a (pool_bytes a) 0 c (key_number key) n).state
+acted a send = (sent_alone a (pool_bytes a) 0).state
+
+abbrev came_of : CallLeft WriterPacerAlone SendAction → Answer
+came_of x = came (result_number pacing.action_number x.answer) (pacing.action_values (result_unwrap_or x.answer Empty))
 
 abbrev answers : WriterPacerAlone → Act → Answer
-answers a (hand c key n) = answered (handed_alone a (pool_bytes a) 0 c (key_number key) n).answer
-answers a send = came (sent_alone a (pool_bytes a) 0).answer (pacing.action_values (sent_alone a (pool_bytes a) 0).action)
+answers a (hand c key n) = answered (result_number fate_number (handed_alone a (pool_bytes a) 0 c (key_number key) n).answer)
+answers a send = came_of (sent_alone a (pool_bytes a) 0)
 
 abbrev performed : WriterPacerAlone → List Act → List Answer
 performed a [] = []
@@ -162,26 +170,27 @@ config_with p =
       allocation = allocation_config_of defaults;
     }
 
--- the answer to a call, and with it what the call leaves
-abbrev turned : CongestionControllerAlone → Turn → ControllerAnswer
-turned a eagain = eagain_alone a
-turned a (sample time x) = sampled_alone a time 1 x
-turned a (tick time) = ticked_alone a time
+-- what a call leaves, and what it answers
+abbrev turned : CongestionControllerAlone → Turn → CongestionControllerAlone
+turned a eagain = (eagain_alone a).state
+turned a (sample time x) = (sampled_alone a time 1 x).state
+turned a (tick time) = (ticked_alone a time).state
 
-abbrev tick_seen : ControllerAnswer → ControllerCore → Turned
+abbrev tick_seen : CallLeft CongestionControllerAlone Bool → ControllerCore → Turned
 tick_seen x k =
-    ticked x.answer x.told (to_bits binary32 k.scorer.score) k.rate_controller.metrics.decreases_soft
+    ticked (result_number (λ b. accepted) x.answer) (result_unwrap_or x.answer false) (to_bits binary32 k.scorer.score)
+    k.rate_controller.metrics.decreases_soft
     k.rate_controller.metrics.decreases_hard
     k.rate_controller.current_rate
 
-abbrev turn_seen : Turn → ControllerAnswer → Turned
-turn_seen eagain x = noted x.answer
-turn_seen (sample time y) x = noted x.answer
-turn_seen (tick time) x = tick_seen x x.alone.controller.core
+abbrev turn_seen : CongestionControllerAlone → Turn → Turned
+turn_seen a eagain = noted (result_number none_number (eagain_alone a).answer)
+turn_seen a (sample time x) = noted (result_number none_number (sampled_alone a time 1 x).answer)
+turn_seen a (tick time) = tick_seen (ticked_alone a time) (ticked_alone a time).state.controller.core
 
 abbrev steered : CongestionControllerAlone → List Turn → List Turned
 steered a [] = []
-steered a (t ∷ rest) = turn_seen t (turned a t) ∷ steered (turned a t).alone rest
+steered a (t ∷ rest) = turn_seen a t ∷ steered (turned a t) rest
 
 abbrev pub outcome : Input → Result
 outcome (rate n) = float (of_int binary32 (pos n))

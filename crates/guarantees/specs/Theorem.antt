@@ -1,6 +1,6 @@
 -- Demand 3, one claim about every list of calls on a new station, in four parts: what became of each record, the byte allowance, the
 -- waits that were told, and that contents steer nothing. Definitions only; `proofs/Theorem.antt` proves the claim.
-use Rattle.std.specs.Prelude.{ℕ, ◌+◌, ◌-◌, ◌*◌, ◌≤◌, ◌<◌, Bool, true, false, cond, ◌≢◌, ◌≡◌, eqb, length, get_or, replicate, take}
+use Rattle.std.specs.Prelude.{ℕ, ◌+◌, ◌-◌, ◌*◌, ◌≤◌, ◌<◌, Bool, true, false, cond, ◌≢◌, ◌≡◌, eqb, length, get_or, replicate, take, Ok}
 use mathlib.Core.List.{List, [], ◌∷◌, ◌++◌, map, Memᴰ}
 use Rattle.config.specs.Config.{class_number}
 use Rattle.config.specs.Refusal.{accepted, queue_full}
@@ -410,17 +410,17 @@ Contents start calls =
 -- ==== the claim
 
 -- a station just made over a pool, and an empty book
-abbrev pub started : CongestionConfig → ℕ → List ℕ → Kept
-started c time pool = kept_of (state_of (made_station c time).station pool) empty_book
+abbrev pub started : Station → List ℕ → Kept
+started s pool = kept_of (state_of s pool) empty_book
 
-pub record Demand3 (c : CongestionConfig) (time : ℕ) (pool : List ℕ) (calls : List Call) : Type 0 where
-  pub fates : Fates (limits_of c) (started c time pool) calls
-  pub allowance : Allowed (limits_of c) (started c time pool) calls
-  pub waits : Waits (limits_of c) (started c time pool) calls
-  pub contents : Contents (started c time pool).state calls
+pub record Demand3 (c : CongestionConfig) (s : Station) (pool : List ℕ) (calls : List Call) : Type 0 where
+  pub fates : Fates (limits_of c) (started s pool) calls
+  pub allowance : Allowed (limits_of c) (started s pool) calls
+  pub waits : Waits (limits_of c) (started s pool) calls
+  pub contents : Contents (started s pool).state calls
 
 -- for every settings that make a station, every time of its making, every pool, and every list of calls
 abbrev pub Theorem : Type 0
 Theorem =
-    (c : CongestionConfig) (time : ℕ) (pool : List ℕ) → (made_station c time).answer ≡ accepted → (calls : List Call)
-    → Demand3 c time pool calls
+    (c : CongestionConfig) (time : ℕ) (pool : List ℕ) (s : Station) → made_station c time ≡ Ok s → (calls : List Call)
+    → Demand3 c s pool calls

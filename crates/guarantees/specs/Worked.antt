@@ -1,6 +1,6 @@
 -- Two short lists of calls on a new station, worked through: what each call answers, and the book after them all (document 01, "What the
 -- port owes on paper"); and document 01's whole tape. Definitions only; `proofs/Worked.antt` has the checker compute them.
-use Rattle.std.specs.Prelude.{ℕ, List, [], ◌∷◌, map, ◌≡◌, replicate}
+use Rattle.std.specs.Prelude.{ℕ, List, [], ◌∷◌, map, ◌≡◌, replicate, Ok}
 use Rattle.config.specs.Config.{defaults, settings_with}
 use Rattle.config.specs.declared.config.CongestionConfig.{CongestionConfig}
 use Rattle.config.specs.declared.config.EcnMode.TheVariants.{Opportunistic}
@@ -11,7 +11,8 @@ use Rattle.pacing.specs.Pool.{bytes_of, limits_of}
 use Rattle.pacing.specs.Records.{Held}
 use Rattle.pacing.specs.WriterPacer.{action_values}
 use Rattle.pacing.specs.declared.coalescing.InstanceKey.{InstanceKey}
-use Rattle.station.specs.Station.{slots_needed}
+use Rattle.station.specs.Station.{slots_needed, station_config_of, new_station, made_station}
+use Rattle.station.specs.declared.station.Station.{Station}
 use Rattle.guarantees.specs.Book.{Queue, Page}
 use Rattle.guarantees.specs.Calls.{owed, eagain, tick, Call, register, control, hand_in, send, Reply, nothing, signal, unchanged, updates, action, Answer, answers}
 use Rattle.guarantees.specs.Theorem.{Kept, keeps, started}
@@ -26,9 +27,13 @@ settings = settings_with defaults defaults.enabled 1 1 2 defaults.ecn_mode
 abbrev pub pool : List ℕ
 pool = replicate (bytes_of (slots_needed (limits_of settings))) 0
 
--- the station made at time 0, and an empty book
+-- the station that these settings make at time 0
+abbrev pub station : Station
+station = new_station (station_config_of settings) 0
+
+-- with an empty book
 abbrev pub start : Kept
-start = started settings 0 pool
+start = started station pool
 
 -- ---- the calls: times in nanoseconds, and the pool that is owed
 
@@ -145,10 +150,11 @@ page = (keeps (limits_of settings) start calls).book 0
 
 -- ---- the claim
 
--- each call's answer, each class's lists, and the bytes of the one record that waits in P2: the newer one's
+-- the making's answer, each call's answer, each class's lists, and the bytes of the one record that waits in P2: the newer one's
 abbrev pub IsWorked : Type 0
 IsWorked =
-    (map seen_of (answers start.state calls) ≡ expected)
+    (made_station settings 0 ≡ Ok station)
+    × (map seen_of (answers start.state calls) ≡ expected)
     × (lists_of (page.queues P0) ≡ expected_p0)
     × (lists_of (page.queues P1) ≡ expected_p1)
     × (lists_of (page.queues P2) ≡ expected_p2)
@@ -160,8 +166,11 @@ IsWorked =
 abbrev pub tape_settings : CongestionConfig
 tape_settings = settings_with defaults defaults.enabled 2 4 2 Opportunistic
 
+abbrev pub tape_station : Station
+tape_station = new_station (station_config_of tape_settings) 0
+
 abbrev pub tape_start : Kept
-tape_start = started tape_settings 0 (replicate (bytes_of (slots_needed (limits_of tape_settings))) 0)
+tape_start = started tape_station (replicate (bytes_of (slots_needed (limits_of tape_settings))) 0)
 
 -- the words 20000004 20000009 30000000 100186A0 40000000 60000000
 abbrev pub tape_calls : List Call
@@ -174,4 +183,5 @@ tape_expected =
     seen 0 [] ∷ seen 0 [] ∷ seen 0 [] ∷ seen 0 (1 ∷ 0 ∷ 10000000 ∷ 2 ∷ 0 ∷ 28000000 ∷ []) ∷ seen 0 [] ∷ []
 
 abbrev pub IsTapeWorked : Type 0
-IsTapeWorked = map seen_of (answers tape_start.state tape_calls) ≡ tape_expected
+IsTapeWorked =
+    (made_station tape_settings 0 ≡ Ok tape_station) × (map seen_of (answers tape_start.state tape_calls) ≡ tape_expected)
