@@ -72,7 +72,8 @@ impl RttEstimator {
         *self = self.update(time, sample_ms);
     }
 
-    // The same by way of the lent form: the estimator is lent for the call, and what it then is comes back.
+    // The same by way of the lent form: the estimator is lent for the call, and what it then is comes back. Stays: the two forms of `update`
+    // are asked for side by side.
     pub fn update_lent(mut self, time: u64, sample_ms: f32) -> RttEstimator
         ensures { result ≡ updated self time sample_ms }
     {
@@ -125,7 +126,8 @@ impl RttEstimator {
     }
 }
 
-// Up to 64 peers in the order they were entered.
+// Up to 64 peers in the order they were entered. Stays: ids and peers are two arrays, since a loop over samples searches the ids alone and
+// reads and writes one row.
 #[derive(Clone, Copy, Debug, PartialEq)]
 pub struct PeerRttTracker {
     pub ids: [u32; 64],
@@ -256,7 +258,7 @@ impl PeerRttTracker {
         self.count
     }
 
-    // The id of the peer at a place, 0 where none stands.
+    // The id of the peer at a place, 0 where none stands. Stays: no Option, so that a place beyond the peers shows zero, as it did.
     pub fn id_at(self, place: usize) -> u32
         ensures { result ≡ id_at self place }
     {
