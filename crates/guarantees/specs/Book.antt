@@ -1,5 +1,5 @@
--- The book (document 01, "What the port owes on paper"): what became of each accepted record, from the calls' arguments, their answer
--- numbers and the class of each `sent` alone. Definitions only.
+-- The book: what became of each accepted record, from the calls' arguments, their answer numbers and the class of each `sent` alone.
+-- Definitions only.
 use Rattle.std.specs.Prelude.{ℕ, ◌+◌, Bool, cond, List, [], ◌∷◌, ◌++◌, ltb, eqb, length, set, take, drop}
 use Rattle.config.specs.Config.{class_number}
 use Rattle.config.specs.Refusal.{accepted, queue_full}

@@ -1,4 +1,4 @@
--- The settled examples of document 01 that are to be proved, as one table of inputs and results. Definitions only.
+-- The settled examples, as one table of inputs and results. Definitions only.
 -- A row joins by a line in `table`; a new kind of input by a constructor of `Input` and its clause in `outcome`.
 use Rattle.std.specs.Prelude.{ℕ, Bool, true, false, List, [], ◌∷◌, ◌++◌, ◌≡◌, Float, pos, negsuc, replicate}
 use Rattle.std.specs.Float.{fin, binary32}

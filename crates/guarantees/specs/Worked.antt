@@ -1,5 +1,5 @@
--- Two short lists of calls on a new station, worked through: what each call answers, and the book after them all (document 01, "What the
--- port owes on paper"); and document 01's whole tape. Definitions only; `proofs/Worked.antt` has the checker compute them.
+-- Two short lists of calls on a new station, worked through: what each call answers, and the book after the first; the second is a whole
+-- tape. Definitions only; `proofs/Worked.antt` has the checker compute them.
 use Rattle.std.specs.Prelude.{ℕ, List, [], ◌∷◌, map, ◌≡◌, replicate, Ok}
 use Rattle.config.specs.Config.{defaults, settings_with}
 use Rattle.config.specs.declared.config.CongestionConfig.{CongestionConfig}
@@ -23,7 +23,7 @@ use Rattle.guarantees.specs.Theorem.{Kept, keeps, started}
 abbrev pub settings : CongestionConfig
 settings = settings_with defaults defaults.enabled 1 1 2 defaults.ecn_mode
 
--- a pool of zeros, just long enough: 23,552 bytes, "4 × 1,472 × the sum of the three limits" (document 01)
+-- a pool of zeros, just long enough: 23,552 bytes, "4 × 1,472 × the sum of the three limits"
 abbrev pub pool : List ℕ
 pool = replicate (bytes_of (slots_needed (limits_of settings))) 0
 
@@ -160,7 +160,7 @@ IsWorked =
     × (lists_of (page.queues P2) ≡ expected_p2)
     × (map (λ (x : Held). x.bytes) (page.queues P2).waiting ≡ newer ∷ [])
 
--- ---- document 01's whole tape, as calls
+-- ---- a whole tape, as calls
 
 -- "Defaults hold, with queue limits 2, 4, 2 and ECN opportunistic."
 abbrev pub tape_settings : CongestionConfig
