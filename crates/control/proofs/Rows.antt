@@ -1,18 +1,12 @@
--- Laws of rows: one is put in or taken out, and all are mapped. Assumes nothing.
-use Rattle.std.proofs.Common.{◌≡◌, ℕ, zero, suc, ◌+◌, ◌-◌, ◌<◌, ◌≤◌, min, max, List, [], ◌∷◌, ◌++◌, map, get_or, set, take, drop, length, refl, ap, sym, arith}
+-- Laws of rows: one is put in, or taken out. Assumes nothing.
+use Rattle.std.proofs.Common.{◌≡◌, ℕ, zero, suc, ◌+◌, ◌-◌, ◌<◌, ◌≤◌, min, max, List, [], ◌∷◌, ◌++◌, set, take, drop, length, refl, ap, sym, arith}
 use Rattle.std.specs.List.{copy_within}
 use Rattle.control.specs.BudgetAllocator.{lacking, blank_writer, taken_of, table_of, with_row, without_row}
 use Rattle.control.specs.declared.budget_allocator.WriterInfo.{WriterInfo}
 use Rattle.control.specs.declared.budget_allocator.WriterTable.{WriterTable}
 
--- all rows before row k are mapped, and then row k
-pub mapped_step : {A : Type 0} (f : A → A) (l : List A) (k : ℕ) (d : A) → k < length l →
-    set (map f (take k l) ++ drop k l) k (f (get_or (map f (take k l) ++ drop k l) k d)) ≡ map f (take (suc k) l) ++ drop (suc k) l
-mapped_step f [] k d lt = absurd (omega arith)
-mapped_step f (x ∷ xs) zero d lt = refl
-mapped_step f (x ∷ xs) (suc k) d lt = ap (λ (r : List _). f x ∷ r) (mapped_step f xs k d (omega arith))
-
-lacking_is : {A : Type 0} (l : List A) (k : ℕ) → lacking l k ≡ take k l ++ drop (suc k) l
+-- a list less its k-th element is what lies before it and what lies after it
+pub lacking_is : {A : Type 0} (l : List A) (k : ℕ) → lacking l k ≡ take k l ++ drop (suc k) l
 unfolding lacking
 lacking_is [] zero = refl
 lacking_is [] (suc k) = refl

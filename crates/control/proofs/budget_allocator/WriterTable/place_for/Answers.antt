@@ -4,7 +4,6 @@ use Rattle.std.proofs.lemmas.Iterator.Search.{position_from_yields_List}
 use Rattle.std.specs.List.{position}
 use Rattle.signals.proofs.Searches.{position-first}
 use Rattle.control.specs.BudgetAllocator.{no_writer, comes_before, place_for, taken_of, writers_of}
-use Rattle.control.specs.declared.budget_allocator.WriterInfo.{WriterInfo}
 use Rattle.control.proofs.budget_allocator.WriterTable.place_for.Goals as goal
 
 pub returns-clause-place : goal.returns-clause-place
