@@ -155,6 +155,7 @@ pub fn send(
 }
 
 // What a call on the core answers and leaves, once the checks have answered; `told` is what it gives where it is accepted.
+#[tactic(auto, unfolding(crate::specs::Parts::called_core))]
 fn called<T: Drop>(
     verdict: Result<(), Refusal>,
     ledger: Ledger,
@@ -179,6 +180,7 @@ fn called<T: Drop>(
     }
 }
 
+#[tactic(auto, unfolding(crate::specs::Parts::eagain_core))]
 pub fn on_eagain(
     ledger: Ledger,
     config: ControllerConfig,
@@ -191,6 +193,7 @@ pub fn on_eagain(
     called(verdict, ledger, core, time, (), core.on_eagain(config))
 }
 
+#[tactic(auto, unfolding(crate::specs::Parts::nacks_core))]
 pub fn on_nacks(
     ledger: Ledger,
     config: ControllerConfig,
@@ -205,6 +208,7 @@ pub fn on_nacks(
 }
 
 // Told: whether congestion is signalled.
+#[tactic(auto, unfolding(crate::specs::Parts::tos_core))]
 pub fn on_ecn_tos(
     ledger: Ledger,
     config: ControllerConfig,
@@ -222,6 +226,7 @@ pub fn on_ecn_tos(
 
 // `inflated`: whether a peer is. Told: whether the rate changed, and is to be shared out. Turned down before the core is worked on: to keep
 // it beside the ticked one, as `called` does, takes a tick more than twice the time.
+#[tactic(auto, unfolding(crate::specs::Parts::ticked_core, crate::specs::Parts::called_core))]
 pub fn tick(
     ledger: Ledger,
     config: ControllerConfig,
@@ -248,6 +253,7 @@ pub fn tick(
 }
 
 // The rate as given is to be shared out where it is accepted.
+#[tactic(auto, unfolding(crate::specs::Parts::rated_core))]
 pub fn set_rate(
     ledger: Ledger,
     config: ControllerConfig,
@@ -263,6 +269,7 @@ pub fn set_rate(
 }
 
 // A rate is shared out among the writers, and each budget reaches its pacer.
+#[tactic(auto, unfolding(crate::specs::Parts::shared_out))]
 pub fn share_out(
     config: StationConfig,
     allocator: BudgetAllocator,
@@ -280,6 +287,7 @@ pub fn share_out(
 }
 
 // A sample in the row of the place that it goes to. With control off no peer is entered, and 14 is not looked at.
+#[tactic(auto, unfolding(crate::specs::Parts::sampled_row, crate::specs::Parts::row_left_by))]
 pub fn sample_row(
     ledger: Ledger,
     config: ControllerConfig,
@@ -363,6 +371,7 @@ fn check_register(ledger: Ledger, roster: Roster, time: u64, id: u64) -> Result<
 }
 
 // A writer joins the table and the roster; its pacer starts at the settings' least rate.
+#[tactic(auto, unfolding(crate::specs::Parts::registered_parts, crate::specs::Parts::roster_left_by))]
 pub fn register(
     ledger: Ledger,
     config: PacerConfig,

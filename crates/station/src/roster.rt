@@ -34,9 +34,8 @@ impl Writer {
     fn budget(mut self, config: PacerConfig, time: u64, table: WriterTable) -> Writer
         ensures { result ≡ budgeted config time table self }
     {
-        let budget = table.budget_of(self.id);
-        if budget.known {
-            self.pacer = self.pacer.set_rate(config, time, budget.bps);
+        if let Some(bps) = table.budget_of(self.id) {
+            self.pacer = self.pacer.set_rate(config, time, bps);
         }
         self
     }
