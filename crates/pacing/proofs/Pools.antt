@@ -1,7 +1,7 @@
 -- What the copier leaves, said of the pool; a record stored is shown again as it was, other slots stay, and no two queues share a slot. Assumes nothing.
-use Prim.Native.Nat.{ℕ, zero, suc, ◌+◌, ◌-◌, ◌*◌, ◌/◌, ◌≤◌, ◌<◌, min}
+use Prim.Native.Nat.{ℕ, suc, ◌+◌, ◌-◌, ◌*◌, ◌/◌, ◌≤◌, ◌<◌, min}
 use mathlib.Core.Bool.{Bool, true, false, cond}
-use mathlib.Core.List.{List, [], ◌∷◌, ◌++◌, append_assoc}
+use mathlib.Core.List.{List, ◌++◌, append_assoc}
 use mathlib.Core.Logic.{◌≢◌, ◌⊎◌, inl, inr}
 use mathlib.Core.Path.{◌≡◌, refl, ap, sym, subst, ◌∙◌}
 use native.Mathlib.Decide.{dec_le}
@@ -9,7 +9,7 @@ use native.Mathlib.Nat.{le_refl, min-eq_left, min-eq_right, suc-mul, mul-le-mul_
 use native.Mathlib.Omega.{arith}
 use borrow.Author.Tests.{le-leb, leb-true, leb-false, lt-ltb, le-ltb, ltb-true, ltb-false}
 use lib.Dec.{leb, ltb}
-use lib.ListN.{length, take, drop, set, get_or, length-append, length-take, length-drop, drop_of_length-le, take-append-drop, get_or-append}
+use lib.ListN.{length, take, drop, get_or, length-append, length-take, length-drop, drop_of_length-le, take-append-drop, get_or-append}
 use lib.Seq.{take_all, drop-drop, drop-append-le, drop_at, length-take-le, take-append_seam, get_or-append-add, get_or-take, get_or-drop, ext_get_or}
 use Rattle.config.specs.Config.{class_number}
 use Rattle.config.specs.declared.config.Priority.{Priority}

@@ -14,7 +14,6 @@ use Rattle.pacing.specs.Pool.{bytes_of, is_short, limit_of, piece, stored}
 use Rattle.pacing.specs.Ring.{slot_at}
 use Rattle.pacing.specs.declared.coalescing.CoalescingQueue.{CoalescingQueue}
 use Rattle.pacing.specs.declared.coalescing.CoalescingQueueAlone.{CoalescingQueueAlone}
-use Rattle.pacing.specs.declared.coalescing.Inserted.{Inserted}
 use Rattle.pacing.specs.declared.coalescing.InstanceKey.{InstanceKey}
 use Rattle.pacing.specs.declared.coalescing.Sample.{Sample}
 use Rattle.pacing.specs.declared.entries.Entry.{Entry}
