@@ -1,6 +1,6 @@
 -- A call on a station comes to the call on its parts: what is answered, and every part that is left. Assumes nothing.
 use Rattle.std.proofs.Common.{◌≡◌, ℕ, Bool, true, false, cond, List, Float, Ok, Err, nat_lt, is_ok, refl, ap, ap₂, sym, subst, ◌∙◌}
-use Rattle.core.specs.Result.{result_unwrap_or}
+use Rattle.std.specs.Result.{result_unwrap_or}
 use Rattle.std.proofs.lemmas.Bool.{leb-false, lt-ltb}
 use Rattle.std.proofs.lemmas.List.{set-get_or}
 use Rattle.config.proofs.Refusals.{Verdict, none_where_accepted}
@@ -10,7 +10,7 @@ use Rattle.config.specs.declared.alone.Left.{Left}
 use Rattle.config.specs.declared.config.Priority.{Priority}
 use Rattle.config.specs.declared.ledger.Ledger.{Ledger}
 use Rattle.config.specs.declared.refusal.Refusal.TheVariants.{TableFull}
-use Rattle.pacing.specs.WriterPacer.{handed_by, words_handed_by, pool_handed_by, sent_by, words_sent_by}
+use Rattle.pacing.specs.WriterPacer.{handed_by, words_handed_by, hand_in_stored, pool_handed_by, sent_by, words_sent_by}
 use Rattle.pacing.specs.declared.coalescing.InstanceKey.{InstanceKey}
 use Rattle.pacing.specs.declared.ring.Fate.{Fate}
 use Rattle.pacing.specs.declared.writer_pacer.Attempt.{Attempt}
@@ -77,7 +77,7 @@ handed_parts_lem s bytes time i c key n = handed_case s time i c key n (hand_in_
 pool_case :
     (s : Station) (i : ℕ) (c : Priority) (key : InstanceKey) (sample pool : List ℕ) (v : Verdict)
     → pool_handed_by v (pacer_in s i) s.words s.config.pacer.limits i c key sample pool
-    ≡ pool_by v (station.hand_in_stored pool s.config.pacer.limits i c (enqueued_in s i c key).kept sample) pool
+    ≡ pool_by v (hand_in_stored pool s.config.pacer.limits i c (enqueued_in s i c key).kept sample) pool
 unfolding pool_by pool_handed_by
 pool_case s i c key sample pool (Ok u) = refl
 pool_case s i c key sample pool (Err e) = refl
@@ -173,7 +173,7 @@ tick_parts s time x e =
 
 rated_case :
     (s : Station) (time rate : ℕ) (k : ControllerCore) (v : Verdict)
-    → shared_by s (called_core v s.ledger s.controller.core time tt k) (is_ok (called_core v s.ledger s.controller.core time (tt {0}) k).answer) time rate
+    → shared_by s (called_core v s.ledger s.controller.core time (tt {0}) k) (is_ok (called_core v s.ledger s.controller.core time (tt {0}) k).answer) time rate
     ≡ left_by v s (answer_with (Ok tt) (allotted s time (controller_of k s.controller.tracker (reallocated s.controller.allocator s.config.controller.allocation rate))))
 unfolding shared_by shared_out called_core left_by
 rated_case s time rate k (Ok u) = refl

@@ -220,8 +220,7 @@ pub fn on_ecn_tos(
 {
     let verdict = ledger.check_timed(time);
     let marked = core.on_ecn_tos(config, tos);
-    let after = marked.core;
-    called(verdict, ledger, core, time, marked.signal, after)
+    called(verdict, ledger, core, time, marked.signal, marked.core)
 }
 
 // `inflated`: whether a peer is. Told: whether the rate changed, and is to be shared out. Turned down before the core is worked on: to keep
@@ -244,11 +243,10 @@ pub fn tick(
         };
     }
     let ticked = core.tick(config, time, inflated);
-    let core = ticked.core;
     CoreLeft {
         answer: Ok(ticked.changed),
         ledger: ledger.moved(time),
-        core,
+        core: ticked.core,
     }
 }
 
@@ -339,24 +337,19 @@ pub fn on_rtt_sample(
     ensures { result ≡ sampled_tracker ledger config tracker time peer_id rtt_ms }
 {
     let at = seat_of(&tracker.ids, tracker.count, peer_id);
-    let id = tracker.ids[at];
-    let estimator = tracker.peers[at];
     let row = PeerRow {
-        id,
-        estimator,
+        id: tracker.ids[at],
+        estimator: tracker.peers[at],
         count: tracker.count,
         default_ms: tracker.default_ms,
     };
     let left = sample_row(ledger, config, row, at, time, peer_id, rtt_ms);
-    let after = left.row;
-    let peer = after.estimator;
-    let moved = left.ledger;
-    tracker.ids[at] = after.id;
-    tracker.peers[at] = peer;
-    tracker.count = after.count;
+    tracker.ids[at] = left.row.id;
+    tracker.peers[at] = left.row.estimator;
+    tracker.count = left.row.count;
     TrackerLeft {
         answer: left.answer,
-        ledger: moved,
+        ledger: left.ledger,
         tracker,
     }
 }

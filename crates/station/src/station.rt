@@ -115,6 +115,7 @@ fn send_words(
 
 impl Station {
     // Turned down by 1, 2 or 7, or a station whose first last time is the time given.
+    #[tactic(auto, unfolding(crate::specs::Station::made_station, crate::specs::Station::made_by))]
     pub fn new(config: CongestionConfig, time: u64) -> Result<Station, Refusal>
         ensures { result ≡ made_station config time }
     {
@@ -126,12 +127,12 @@ impl Station {
     pub fn resumed(mut self, calls: u64) -> Station
         ensures { result ≡ resumed_station self calls }
     {
-        let ledger = self.ledger.resumed(calls);
-        self.ledger = ledger;
+        self.ledger = self.ledger.resumed(calls);
         self
     }
 
     // A writer of a class; its pacer has the next number, from 0.
+    #[tactic(auto, using(crate::proofs::Shells::register_parts))]
     pub fn register(mut self, time: u64, id: u64, class: Priority) -> Left<Station, ()>
         ensures { result ≡ registered_station self time id class }
     {
@@ -145,16 +146,13 @@ impl Station {
             id,
             class,
         );
-        let ledger = left.ledger;
-        let allocator = left.allocator;
-        let roster = left.roster;
-        self.ledger = ledger;
+        self.ledger = left.ledger;
         self.controller = CongestionController::of(
             controller.core(),
             controller.tracker(),
-            allocator,
+            left.allocator,
         );
-        self.roster = roster;
+        self.roster = left.roster;
         Left {
             state: self,
             answer: left.answer,
@@ -166,11 +164,9 @@ impl Station {
         ensures { result ≡ core_left_by self left }
     {
         let controller = self.controller;
-        let ledger = left.ledger;
-        let core = left.core;
-        self.ledger = ledger;
+        self.ledger = left.ledger;
         self.controller = CongestionController::of(
-            core,
+            left.core,
             controller.tracker(),
             controller.allocator(),
         );
@@ -180,6 +176,7 @@ impl Station {
         }
     }
 
+    #[tactic(auto, using(crate::proofs::Shells::eagain_parts))]
     pub fn on_eagain(self, time: u64) -> Left<Station, ()>
         ensures { result ≡ eagain_station self time }
     {
@@ -187,6 +184,7 @@ impl Station {
         self.left_by(parts::on_eagain(self.ledger, self.config.controller, core, time))
     }
 
+    #[tactic(auto, using(crate::proofs::Shells::nacks_parts))]
     pub fn on_nacks(self, time: u64, count: u32) -> Left<Station, ()>
         ensures { result ≡ nacks_station self time count }
     {
@@ -195,6 +193,7 @@ impl Station {
     }
 
     // Told: whether congestion is signalled.
+    #[tactic(auto, using(crate::proofs::Shells::tos_parts))]
     pub fn on_ecn_tos(self, time: u64, tos: u8) -> Left<Station, bool>
         ensures { result ≡ tos_station self time tos }
     {
@@ -202,6 +201,7 @@ impl Station {
         self.left_by(parts::on_ecn_tos(self.ledger, self.config.controller, core, time, tos))
     }
 
+    #[tactic(auto, using(crate::proofs::Shells::rtt_parts))]
     pub fn on_rtt_sample(mut self, time: u64, peer_id: u32, rtt_ms: f32) -> Left<Station, ()>
         ensures { result ≡ rtt_station self time peer_id rtt_ms }
     {
@@ -214,12 +214,10 @@ impl Station {
             peer_id,
             rtt_ms,
         );
-        let ledger = left.ledger;
-        let tracker = left.tracker;
-        self.ledger = ledger;
+        self.ledger = left.ledger;
         self.controller = CongestionController::of(
             controller.core(),
-            tracker,
+            left.tracker,
             controller.allocator(),
         );
         Left {
@@ -240,27 +238,25 @@ impl Station {
     {
         if shared {
             let controller = self.controller;
-            let shared = parts::share_out(
+            let after = parts::share_out(
                 self.config,
                 controller.allocator(),
                 self.roster,
                 time,
                 rate_bps,
             );
-            let allocator = shared.allocator;
-            let roster = shared.roster;
             self.controller = CongestionController::of(
                 controller.core(),
                 controller.tracker(),
-                allocator,
+                after.allocator,
             );
-            self.roster = roster;
-            return self.left_by(left);
+            self.roster = after.roster;
         }
         self.left_by(left)
     }
 
     // Told: whether the rate changed; the updates are then the allocator's rows.
+    #[tactic(auto, using(crate::proofs::Shells::tick_shell))]
     pub fn tick(self, time: u64) -> Left<Station, bool>
         ensures { result ≡ ticked_station self time }
     {
@@ -273,12 +269,12 @@ impl Station {
             tracker.any_inflated(),
             time,
         );
-        let core = left.core;
         let changed = left.answer.unwrap_or(false);
-        self.shared_by(left, changed, time, core.rate())
+        self.shared_by(left, changed, time, left.core.rate())
     }
 
     // Where it is accepted, the updates are the allocator's rows.
+    #[tactic(auto, using(crate::proofs::Shells::rated_parts))]
     pub fn set_rate(self, time: u64, rate_bps: u32) -> Left<Station, ()>
         ensures { result ≡ rated_station self time rate_bps }
     {
@@ -314,10 +310,8 @@ impl Station {
             key,
             sample,
         );
-        let ledger = handed.ledger;
-        let core = handed.core;
-        self.ledger = ledger;
-        self.roster = roster.with_pacer(i, core);
+        self.ledger = handed.ledger;
+        self.roster = roster.with_pacer(i, handed.core);
         Left {
             state: self,
             answer: handed.answer,
@@ -339,10 +333,8 @@ impl Station {
             time,
             i,
         );
-        let ledger = tried.ledger;
-        let core = tried.core;
-        self.ledger = ledger;
-        self.roster = roster.with_pacer(i, core);
+        self.ledger = tried.ledger;
+        self.roster = roster.with_pacer(i, tried.core);
         Left {
             state: self,
             answer: tried.answer,
