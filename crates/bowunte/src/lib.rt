@@ -2,124 +2,121 @@
 // and writes its result, 8 little-endian bytes, to a lent slice, which is left as it is where the call is turned down.
 #![tactic(auto)]
 
-ghost use Rattle.std.specs.Prelude.{◌≡◌, length, set};
+ghost use Rattle.std.specs.Prelude.{◌≡◌, length};
+ghost use Rattle.config.specs.Refusal.{verdict_of};
 ghost use Rattle.pacing.specs.Coalescing.{fnv1a};
 ghost use Rattle.control.specs.RateController.{decreased};
 ghost use Rattle.tape.specs.Run.{tape_text};
-ghost use Rattle.bowunte.specs.Doors.{byte_of, shown, rate_out, hash_answer, decrease_answer, tape_answer, out_left, lines_left_by};
+ghost use Rattle.bowunte.specs.Doors.{shown, told_or, told_number, told_left, result_checks, rate_out, decrease_checks, tape_checks, hash_answer, decrease_answer, tape_answer, out_left, lines_left_by};
 
+use config::answer::Numbered;
 use config::config::factor_out;
-use config::refusal;
+use config::refusal::{ACCEPTED, LARGEST_RATE, Refusal};
 use control::rate_controller::decrease;
 use pacing::coalescing::hash_bytes;
 
 // The bytes of a result.
 const RESULT_BYTES: usize = 8;
 
-// A byte at a place that the slice has.
-fn put_byte(out: &mut [u8], at: usize, byte: u8)
-    ensures { out.new ≡ set out.old at byte }
-{
-    if at < out.len() {
-        out[at] = byte;
-        return;
-    }
-}
-
-// The byte of a number that is worth so much.
-fn byte_of(number: u64, worth: u64) -> u8
-    ensures { result ≡ byte_of number worth }
-{
-    if worth == 0 {
-        return 0;
-    }
-    (number / worth % 256) as u8
-}
-
 // A result as 8 little-endian bytes, in a slice that has room for them.
+#[tactic(auto, unfolding(crate::specs::Doors::shown))]
 fn put_result(out: &mut [u8], number: u64)
     ensures { out.new ≡ shown out.old number }
 {
-    if out.len() < RESULT_BYTES {
-        return;
+    if RESULT_BYTES <= out.len() {
+        out[..RESULT_BYTES].copy_from_slice(&number.to_le_bytes());
     }
-    put_byte(out, 0, byte_of(number, 1));
-    put_byte(out, 1, byte_of(number, 256));
-    put_byte(out, 2, byte_of(number, 65536));
-    put_byte(out, 3, byte_of(number, 16777216));
-    put_byte(out, 4, byte_of(number, 4294967296));
-    put_byte(out, 5, byte_of(number, 1099511627776));
-    put_byte(out, 6, byte_of(number, 281474976710656));
-    put_byte(out, 7, byte_of(number, 72057594037927936));
+}
+
+// The answer number, and the result written where the call was accepted.
+fn tell(answer: Result<u64, Refusal>, out: &mut [u8]) -> u32
+    ensures value { result ≡ told_number answer }
+    ensures out_after { out.new ≡ told_left answer out.old }
+{
+    match answer {
+        Ok(number) => {
+            put_result(out, number);
+            u32::from(ACCEPTED)
+        }
+        Err(refusal) => u32::from(refusal.number()),
+    }
+}
+
+// The check of a slice for a result: 8.
+#[tactic(auto, unfolding(config::specs::Refusal::verdict_of))]
+fn check_result(room: usize) -> Result<(), Refusal>
+    ensures { result ≡ verdict_of (result_checks room) }
+{
+    Refusal::BufferTooShort.when(room < RESULT_BYTES)
 }
 
 // Whether a rate is not from the least rate, itself at least 1, to 1,000,000,000.
+#[tactic(auto, unfolding(crate::specs::Doors::rate_out))]
 fn rate_out(rate: u32, least_rate: u32) -> bool
     ensures { result ≡ rate_out rate least_rate }
 {
-    if least_rate < 1 {
-        return true;
-    }
-    if rate < least_rate {
-        return true;
-    }
-    refusal::LARGEST_RATE < rate
+    least_rate < 1 || rate < least_rate || LARGEST_RATE < rate
 }
 
-// 2, 6, 8 or 0.
-fn check_decrease(rate: u32, factor: f32, least_rate: u32, room: usize) -> u8
-    ensures { result ≡ decrease_answer rate factor least_rate room }
+// The checks of a decrease: 2, 6 and 8.
+#[tactic(auto, unfolding(config::specs::Refusal::verdict_of))]
+fn check_decrease(rate: u32, factor: f32, least_rate: u32, room: usize) -> Result<(), Refusal>
+    ensures { result ≡ verdict_of (decrease_checks rate factor least_rate room) }
 {
-    if factor_out(factor) {
-        return refusal::SETTINGS_BEYOND;
-    }
-    if rate_out(rate, least_rate) {
-        return refusal::RATE_BEYOND;
-    }
-    if room < RESULT_BYTES {
-        return refusal::BUFFER_TOO_SHORT;
-    }
-    refusal::ACCEPTED
+    Refusal::SettingsBeyond.when(factor_out(factor))?;
+    Refusal::RateBeyond.when(rate_out(rate, least_rate))?;
+    check_result(room)
+}
+
+fn hash(bytes: &[u8], room: usize) -> Result<u64, Refusal>
+    ensures { result ≡ told_or (verdict_of (result_checks room)) (fnv1a bytes.now) }
+{
+    check_result(room)?;
+    Ok(hash_bytes(bytes))
+}
+
+fn decreased_rate(rate: u32, factor: f32, least_rate: u32, room: usize) -> Result<u64, Refusal>
+    ensures { result ≡ told_or (verdict_of (decrease_checks rate factor least_rate room)) (decreased rate factor least_rate) }
+{
+    check_decrease(rate, factor, least_rate, room)?;
+    Ok(u64::from(decrease(rate, factor, least_rate)))
+}
+
+#[tactic(auto, unfolding(config::specs::Refusal::verdict_of, crate::specs::Doors::tape_answer, crate::specs::Doors::lines_left_by, tape::specs::Run::ran_tape, tape::specs::Run::lines_left))]
+fn run_tape(bytes: &[u8], lines: &mut [u8], room: usize) -> Result<u64, Refusal>
+    ensures value { result ≡ told_or (verdict_of (tape_checks (length bytes.now) (length lines.old) room)) (length (tape_text bytes.now)) }
+    ensures lines_after { lines.new ≡ lines_left_by (tape_answer (length bytes.now) (length lines.old) room) bytes.now lines.old }
+{
+    check_result(room)?;
+    let ran = tape::run::run(bytes, lines);
+    Refusal::BufferTooShort.when(ran.answer != ACCEPTED)?;
+    Ok(ran.length)
 }
 
 // The FNV-1a hash, 64 bits, of the bytes; 8 where `out` is shorter than 8 bytes.
+#[tactic(auto, using(crate::proofs::Results::told_number_is, crate::proofs::Results::told_left_is), unfolding(crate::specs::Doors::hash_answer))]
 pub fn bowunte_key_hash(bytes: &[u8], out: &mut [u8]) -> u32
     ensures value { result ≡ hash_answer (length out.old) }
     ensures out_after { out.new ≡ out_left (hash_answer (length out.old)) out.old (fnv1a bytes.now) }
 {
-    if out.len() < RESULT_BYTES {
-        return refusal::BUFFER_TOO_SHORT as u32;
-    }
-    put_result(out, hash_bytes(bytes));
-    0
+    tell(hash(bytes, out.len()), out)
 }
 
 // A rate after a decrease by a factor, not below the least rate; 2, 6 or 8 where it is turned down.
+#[tactic(auto, using(crate::proofs::Results::told_number_is, crate::proofs::Results::told_left_is), unfolding(crate::specs::Doors::decrease_answer))]
 pub fn bowunte_rate_decrease(rate: u32, factor: f32, least_rate: u32, out: &mut [u8]) -> u32
     ensures value { result ≡ decrease_answer rate factor least_rate (length out.old) }
     ensures out_after { out.new ≡ out_left (decrease_answer rate factor least_rate (length out.old)) out.old (decreased rate factor least_rate) }
 {
-    let answer = check_decrease(rate, factor, least_rate, out.len());
-    if answer != 0 {
-        return answer as u32;
-    }
-    put_result(out, decrease(rate, factor, least_rate) as u64);
-    0
+    tell(decreased_rate(rate, factor, least_rate, out.len()), out)
 }
 
 // The lines of a tape, and their length; 8 where `lines` is shorter than 24 bytes and 192 for each word, or `out` than 8.
+#[tactic(auto, using(crate::proofs::Results::told_number_is, crate::proofs::Results::told_left_is), unfolding(crate::specs::Doors::tape_answer))]
 pub fn bowunte_tape_run(bytes: &[u8], lines: &mut [u8], out: &mut [u8]) -> u32
     ensures value { result ≡ tape_answer (length bytes.now) (length lines.old) (length out.old) }
     ensures lines_after { lines.new ≡ lines_left_by (tape_answer (length bytes.now) (length lines.old) (length out.old)) bytes.now lines.old }
     ensures out_after { out.new ≡ out_left (tape_answer (length bytes.now) (length lines.old) (length out.old)) out.old (length (tape_text bytes.now)) }
 {
-    if out.len() < RESULT_BYTES {
-        return refusal::BUFFER_TOO_SHORT as u32;
-    }
-    let ran = tape::run::run(bytes, lines);
-    if ran.answer != 0 {
-        return ran.answer as u32;
-    }
-    put_result(out, ran.length);
-    0
+    tell(run_tape(bytes, lines, out.len()), out)
 }
