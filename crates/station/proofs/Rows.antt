@@ -1,5 +1,5 @@
 -- A sample on the row of its place comes to the sample on the table. Assumes nothing.
-use Rattle.std.proofs.Common.{◌≡◌, ℕ, ◌^◌, Bool, true, false, cond, List, [], ◌∷◌, Float, Option, Some, None, Ok, Err, nat_lt, nat_le, refl, ap}
+use Rattle.std.proofs.Common.{◌≡◌, ℕ, ◌^◌, Bool, true, false, cond, List, [], ◌∷◌, Float, Option, Some, None, Ok, Err, nat_lt, nat_le, ap}
 use mathlib.Core.Bool.{false≢true, true≢false}
 use Rattle.std.specs.Option.{is_none, unwrap_or}
 use Rattle.config.proofs.Refusals.{Verdict, then_of, chain_then}

@@ -13,8 +13,6 @@ use Rattle.config.specs.declared.refusal.Refusal.TheVariants.{TableFull}
 use Rattle.pacing.specs.WriterPacer.{handed_by, words_handed_by, hand_in_stored, pool_handed_by, sent_by, words_sent_by}
 use Rattle.pacing.specs.declared.coalescing.InstanceKey.{InstanceKey}
 use Rattle.pacing.specs.declared.ring.Fate.{Fate}
-use Rattle.pacing.specs.declared.writer_pacer.Attempt.{Attempt}
-use Rattle.pacing.specs.declared.writer_pacer.Enqueued.{Enqueued}
 use Rattle.pacing.specs.declared.writer_pacer.Handed.{Handed}
 use Rattle.pacing.specs.declared.writer_pacer.SendAction.{SendAction}
 use Rattle.pacing.specs.declared.writer_pacer.SendTried.{SendTried}
@@ -23,17 +21,14 @@ use Rattle.signals.specs.RttEstimator.{tracker_updated, any_inflated}
 use Rattle.control.specs.BudgetAllocator.{one, registered, reallocated}
 use Rattle.control.specs.Controller.{controller_of, core_ticked, core_set, controller_ticked, controller_set, registered_in, sampled, full_for_peer}
 use Rattle.control.specs.ControllerAlone.{with_core}
-use Rattle.control.specs.declared.budget_allocator.BudgetAllocator.{BudgetAllocator}
-use Rattle.control.specs.declared.controller.CongestionController.{CongestionController}
 use Rattle.control.specs.declared.controller.ControllerCore.{ControllerCore}
 use Rattle.control.specs.declared.controller.ControllerTicked.{ControllerTicked}
 use Rattle.control.specs.declared.controller.CoreTicked.{CoreTicked}
-use Rattle.station.specs.Parts.{core_left, called_core, eagain_core, nacks_core, tos_core, ticked_core, rated_core, core_left_by, shared_out, with_shares, shared_by, rtt_checks_on, tracker_left, tracker_left_by, sampled_tracker, register_checks_on, roster_left, roster_left_by, registered_parts}
+use Rattle.station.specs.Parts.{called_core, eagain_core, nacks_core, tos_core, ticked_core, rated_core, core_left_by, shared_out, shared_by, rtt_checks_on, tracker_left, tracker_left_by, sampled_tracker, register_checks_on, roster_left, roster_left_by, registered_parts}
 use Rattle.station.specs.Station as station
 use Rattle.station.specs.Station.{station_of, answer_with, turned_down, left_by, steered, writer_of, writer_at, roster_of, with_pacer, pacer_in, joined, first_pacer, hand_in_verdict, hand_in_leaves, enqueued_in, handed_station, pool_by, pool_handed, send_verdict, attempt_in, sent_station, register_leaves, registered_station, eagain_station, nacks_station, tos_station, rtt_station, tick_leaves, ticked_station, rated_station, allotted}
 use Rattle.station.specs.declared.parts.CoreLeft.{CoreLeft}
 use Rattle.station.specs.declared.parts.RosterLeft.{RosterLeft}
-use Rattle.station.specs.declared.parts.SharedOut.{SharedOut}
 use Rattle.station.specs.declared.parts.TrackerLeft.{TrackerLeft}
 use Rattle.station.specs.declared.roster.Roster.{Roster}
 use Rattle.station.specs.declared.roster.Writer.{Writer}
@@ -228,21 +223,11 @@ pub register_parts :
 unfolding registered_station registered_parts
 register_parts s time id class = register_case s time id class (verdict_of (register_checks_on s.ledger s.roster time id))
 
--- ---- the shells that share a rate out, with what their callees gave
+-- ---- a tick on a station, with what its callees gave, and a call that shares no rate out
 
 pub untold_shell : {T : Type 0} (s : Station) (x : CoreLeft T) (shared : Bool) (time rate : ℕ) → shared ≡ false → core_left_by s x ≡ shared_by s x shared time rate
 unfolding shared_by
 untold_shell s x shared time rate e = rw e refl
-
-pub told_shell :
-    {T : Type 0} (s : Station) (x : CoreLeft T) (shared : Bool) (time rate : ℕ) (y : SharedOut) (k : ControllerCore) (t : PeerRttTracker) (a : BudgetAllocator) (z : CongestionController)
-    → k ≡ s.controller.core → t ≡ s.controller.tracker → a ≡ s.controller.allocator
-    → y ≡ shared_out s.config a s.roster time rate → z ≡ controller_of k t y.allocator → shared ≡ true
-    → core_left_by (station_of s.ledger s.config z y.roster s.words) x ≡ shared_by s x shared time rate
-unfolding shared_by
-told_shell s x shared time rate y k t a z ek et ea ey ez e =
-    subst (λ (z : CongestionController). core_left_by (station_of s.ledger s.config z y.roster s.words) x ≡ shared_by s x shared time rate) (sym (ez ∙ ap₂ (λ (k : ControllerCore) (t : PeerRttTracker). controller_of k t y.allocator) ek et))
-    (subst (λ (y : SharedOut). core_left_by (with_shares s y) x ≡ shared_by s x shared time rate) (sym (ey ∙ ap (λ (a : BudgetAllocator). shared_out s.config a s.roster time rate) ea)) (rw e refl))
 
 pub tick_shell :
     (s : Station) (time rate : ℕ) (x : CoreLeft Bool) (k : ControllerCore) (t : PeerRttTracker) (inflated : Bool)

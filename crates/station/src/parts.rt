@@ -204,7 +204,14 @@ pub fn on_nacks(
     ensures { result ≡ nacks_core ledger config core time count }
 {
     let verdict = ledger.check_timed(time);
-    called(verdict, ledger, core, time, (), core.on_nacks(config, count))
+    called(
+        verdict,
+        ledger,
+        core,
+        time,
+        (),
+        core.on_nacks(config, count),
+    )
 }
 
 // Told: whether congestion is signalled.
