@@ -1,4 +1,4 @@
--- A bucket left at rate 0 is credited nothing, and the wait told is the largest u64 (document 01, token_bucket.rs): what the definitions give. Assumes nothing.
+-- A bucket left at rate 0 is credited nothing, and the wait told is the largest u64: what the definitions give. Assumes nothing.
 use Prim.Native.Nat.{ℕ, zero, suc, ◌+◌, ◌-◌, ◌*◌, ◌/◌, ◌^◌, ◌≤◌, ◌<◌, min}
 use mathlib.Core.Bool.{Bool, true, false, true≢false}
 use mathlib.Core.Path.{◌≡◌, refl, sym, ap, ◌∙◌}

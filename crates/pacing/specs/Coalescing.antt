@@ -1,4 +1,4 @@
--- FNV-1a, 64 bits (the FNV reference by Fowler, Noll and Vo; document 01, coalescing.rs), the keys made with it, and the
+-- FNV-1a, 64 bits (the FNV reference by Fowler, Noll and Vo), the keys made with it, and the
 -- coalescing queue. Definitions only.
 use Rattle.std.specs.Prelude.{ℕ, ◌+◌, ◌-◌, ◌*◌, ◌%◌, ◌^◌, Bool, cond, ◌&&◌, List, [], ◌∷◌, eqb, ltb, get_or, set}
 use Rattle.std.specs.Int.Bits.{bit_xor}

@@ -1,5 +1,5 @@
 -- A coalescing queue used alone: the reasons that may apply to each call, and what it answers and leaves
--- (document 01, "Domain": P2 limits 1 to 128, records 0 to 1,472 bytes; "a pacer or queue alone needs its own slots"). Definitions only.
+-- (P2 limits 1 to 128, records 0 to 1,472 bytes; "a pacer or queue alone needs its own slots"). Definitions only.
 use Rattle.std.specs.Prelude.{ℕ, cond, ◌||◌, List, [], ◌∷◌, ltb, eqb, length, replicate, Option, Some, None, Result, Ok, Err}
 use Rattle.config.specs.Ledger.{opened, resumed, counted, counted_checks}
 use Rattle.config.specs.Refusal.{Check, when, verdict_of}

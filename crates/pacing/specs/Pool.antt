@@ -1,4 +1,4 @@
--- The lent pool (document 01, "Collections"): slots of 1,472 bytes, which slot is whose, and bytes written and shown. Definitions only.
+-- The lent pool: slots of 1,472 bytes, which slot is whose, and bytes written and shown. Definitions only.
 use Rattle.std.specs.Prelude.{ℕ, ◌+◌, ◌*◌, min, Bool, cond, List, ◌++◌, leb, ltb, length, take, drop}
 use Rattle.config.specs.declared.config.CongestionConfig.{CongestionConfig}
 use Rattle.config.specs.declared.config.Priority.{Priority}

@@ -1,5 +1,5 @@
--- What the queues of a pacer hold, with the records' bytes, and the book that it is held against (document 01, "What the port owes on
--- paper"), for one pacer: the laws in `proofs/Records.antt` speak of these. Definitions only.
+-- What the queues of a pacer hold, with the records' bytes, and the book that it is held against, for one pacer: the laws in
+-- `proofs/Records.antt` speak of these. Definitions only.
 use Rattle.std.specs.Prelude.{ℕ, ◌<◌, Bool, cond, List, [], ◌∷◌, ◌++◌, ◌≡◌, ltb, eqb, length, set, drop, get_or}
 use Rattle.config.specs.Config.{class_number}
 use Rattle.config.specs.declared.config.Priority.{Priority}

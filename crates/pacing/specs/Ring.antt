@@ -1,4 +1,4 @@
--- A ring's control (document 01, "Collections"): the slots of its places, and what pop and push leave. Definitions only.
+-- A ring's control: the slots of its places, and what pop and push leave. Definitions only.
 use Rattle.std.specs.Prelude.{ℕ, ◌+◌, ◌-◌, ◌%◌, max, Bool, true, false, cond, ltb}
 use Rattle.config.specs.Refusal.{accepted, queue_full}
 use Rattle.pacing.specs.declared.ring.Fate.{Fate}

@@ -1,4 +1,4 @@
--- The token bucket (document 01, token_bucket.rs): credit, refill, and what each step leaves. Definitions only.
+-- The token bucket: credit, refill, and what each step leaves. Definitions only.
 use Rattle.std.specs.Prelude.{ℕ, ◌+◌, ◌-◌, min, true, false, cond, ltb, leb, pos}
 use Rattle.std.specs.Float.{binary64}
 use Rattle.std.specs.Float.Ieee.{of_int, to_unsigned, mul, div}

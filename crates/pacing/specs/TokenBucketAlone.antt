@@ -1,5 +1,5 @@
 -- A bucket used alone: the reasons that may apply to each call, and what it answers and leaves
--- (document 01, "Domain": "A bucket alone: rate at least 1, capacity and byte counts at most 1,000,000,000"). Definitions only.
+-- ("A bucket alone: rate at least 1, capacity and byte counts at most 1,000,000,000"). Definitions only.
 use Rattle.std.specs.Prelude.{ℕ, Bool, ◌||◌, List, [], ◌∷◌, ltb, Result}
 use Rattle.config.specs.Alone.{answered, made_or}
 use Rattle.config.specs.Ledger.{counted, moved, time_check, counted_checks, timed_checks}

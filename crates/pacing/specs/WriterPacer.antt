@@ -1,4 +1,4 @@
--- The writer pacer (document 01, writer_pacer.rs): what a hand-in, a send attempt and a rate setting do to one pacer. A hand-in's
+-- The writer pacer: what a hand-in, a send attempt and a rate setting do to one pacer. A hand-in's
 -- step reads the record's class and key alone; its length goes to the entry and its bytes to the slot. Definitions only.
 use Rattle.std.specs.Prelude.{ℕ, ◌+◌, ◌/◌, min, max, Bool, true, false, cond, List, [], ◌∷◌, ltb, eqb, get_or, Result, Ok, Err}
 use Rattle.config.specs.Config.{class_number}

@@ -1,5 +1,5 @@
 -- A pacer used alone: the reasons that may apply to each call, and what it answers and leaves
--- (document 01, "Domain" and the two lists of numbers; "a pacer or queue alone needs its own slots"). Definitions only.
+-- ("a pacer or queue alone needs its own slots"). Definitions only.
 use Rattle.std.specs.Prelude.{ℕ, Bool, not, List, [], ◌∷◌, ltb, length, replicate, Result, Ok, Err}
 use Rattle.config.specs.Config.{settings_checks}
 use Rattle.config.specs.Ledger.{opened, resumed, moved, time_check, timed_checks, rate_checks}
