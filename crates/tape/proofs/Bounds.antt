@@ -1,18 +1,22 @@
--- A buffer of 24 bytes and 192 for each word holds the lines of every tape (document 01, "The tape"): a line has at most 168 bytes, and each
+-- A buffer of 24 bytes and 192 for each word holds the lines of every tape ("The tape"): a line has at most 168 bytes, and each
 -- has a word of its own but a missing end's, which has at most 23. Assumes nothing.
 use Prim.Native.Nat.{ℕ, zero, suc, ◌+◌, ◌-◌, ◌*◌, ◌^◌, ◌≤◌, ◌<◌}
 use mathlib.Core.List.{List, [], ◌∷◌, ◌++◌, map, append-nil}
 use mathlib.Core.Path.{◌≡◌, refl, ap}
+use Rattle.std.proofs.Common.{Bool, true, false, Result, Ok, Err}
 use native.Mathlib.Omega.{arith}
-use borrow.Author.Tests.{eqb-true, leb-false}
+use borrow.Author.Tests.{leb-false}
 use lib.Dec.{ltb, eqb}
 use lib.Ieee.{Float, binary32, of_bits, of_int, mul, div}
 use lib.Ieee.Casts.{to_unsigned-lt}
 use lib.IntN.{pos}
 use lib.ListN.{length, take, drop, length-append, length-take}
 use Rattle.config.proofs.Refusals.{none_where_accepted}
-use Rattle.config.specs.Refusal.{answer_of, kind_unknown}
+use Rattle.config.specs.Refusal.{number_of, verdict_of, none_number, result_number}
+use Rattle.config.specs.declared.alone.Left.{Left}
 use Rattle.config.specs.declared.config.Priority.{Priority}
+use Rattle.config.specs.declared.refusal.Refusal.{Refusal}
+use Rattle.config.specs.declared.refusal.Refusal.TheVariants.{KindUnknown, TableFull}
 use Rattle.numeric.proofs.Choice.{by_test}
 use Rattle.numeric.specs.Float.{scaled}
 use Rattle.pacing.specs.declared.coalescing.InstanceKey.{InstanceKey}
@@ -27,12 +31,10 @@ use Rattle.control.specs.declared.budget_allocator.WriterTable.{WriterTable}
 use Rattle.control.specs.declared.controller.CongestionController.{CongestionController}
 use Rattle.control.specs.declared.controller.ControllerTicked.{ControllerTicked}
 use Rattle.control.specs.declared.controller.CoreTicked.{CoreTicked}
-use Rattle.station.specs.Station.{joined, with_pacer, left_by, register_checks, register_leaves, registered_station, eagain_station, nacks_station, tos_station, rtt_station, budgeted_all, tick_leaves, ticked_station, rated_station, handed_station, send_answer, sent_station}
+use Rattle.station.specs.Station.{joined, with_pacer, left_by, register_checks, register_leaves, registered_station, eagain_station, nacks_station, tos_station, rtt_station, budgeted_all, tick_leaves, ticked_station, rated_station, handed_station, sent_station}
 use Rattle.station.specs.declared.station.Station.{Station}
-use Rattle.station.specs.declared.station.StationAnswer.{StationAnswer}
-use Rattle.station.specs.declared.station.StationSent.{StationSent}
 use Rattle.tape.specs.Item.{words_of, item_at, takes, Placed, placed, is_end, stops, items_from, items_of}
-use Rattle.tape.specs.Run.{Player, new_player, Told, fields, told_text, Line, line_of, updates_of, rate_told, Step, silent, saying, rated, played, lines_of, text_of, tape_text}
+use Rattle.tape.specs.Run.{Player, player_of, new_player, fields, updates, told_text, Line, line_of, flag_number, updates_of, tick_told, rate_told, Step, silent, saying, ticked, rated, played, lines_of, text_of, tape_text}
 use Rattle.tape.specs.Text.{decimal_by, fields_text, line_text}
 use Rattle.tape.specs.declared.item.Item.{Item}
 use Rattle.tape.specs.declared.item.Item.TheVariants.{End, Broken, Advance, Register, Eagain, Tos, Nacks, Rtt, Tick, HandIn, Send, SetRate}
@@ -135,38 +137,38 @@ IsBounded s = IsSmall s.controller.allocator.table s.roster.count × (s.roster.c
 
 -- a call that is turned down leaves the station as it was
 bounded-left :
-    (answer : ℕ) (s : Station) (x : StationAnswer) → IsBounded s → (answer ≡ 0 → IsBounded x.station) → IsBounded (left_by answer s x).station
+    {T : Type 0} (v : Result Unit Refusal) (s : Station) (x : Left Station T) → IsBounded s → (v ≡ Ok tt → IsBounded x.state) → IsBounded (left_by v s x).state
 unfolding left_by
-bounded-left answer s x ok done =
-    by_test (λ (r : StationAnswer). IsBounded r.station) (eqb answer 0) (λ e. done (eqb-true answer 0 e)) (λ e. ok)
+bounded-left (Ok u) s x ok done = done refl
+bounded-left (Err e) s x ok done = ok
 
 module _ (s : Station) (time : ℕ) (ok : IsBounded s) where
-  -- 14, "table full", is the fourteenth number of the order
-  room : (id : ℕ) → answer_of (register_checks s time id) ≡ 0 → s.roster.count < 4
-  room id e = leb-false _ _ (none_where_accepted (register_checks s time id) e).1.1.1.1.1.1.1.1.1.1.1.1.1.0
+  -- an accepted register found the table not full
+  room : (id : ℕ) → verdict_of (register_checks s time id) ≡ Ok tt → s.roster.count < 4
+  room id e = leb-false _ _ (none_where_accepted (register_checks s time id) e TableFull)
 
-  bounded-registered : (id : ℕ) (class : Priority) → id < 10 ^ 8 → IsBounded (registered_station s time id class).station
+  bounded-registered : (id : ℕ) (class : Priority) → id < 10 ^ 8 → IsBounded (registered_station s time id class).state
   unfolding registered_station register_leaves registered_in joined
   bounded-registered id class short =
-      bounded-left (answer_of (register_checks s time id)) s _ ok
+      bounded-left (verdict_of (register_checks s time id)) s _ ok
       (λ e.
       let free : s.roster.count < 4 = room id e in
       (small-registered s.controller.allocator id class s.roster.count short ok.0, omega arith))
 
   -- signals leave the table
-  bounded-eagain : IsBounded (eagain_station s time).station
+  bounded-eagain : IsBounded (eagain_station s time).state
   unfolding eagain_station
   bounded-eagain = bounded-left _ s _ ok (λ e. ok)
 
-  bounded-nacks : (count : ℕ) → IsBounded (nacks_station s time count).station
+  bounded-nacks : (count : ℕ) → IsBounded (nacks_station s time count).state
   unfolding nacks_station
   bounded-nacks count = bounded-left _ s _ ok (λ e. ok)
 
-  bounded-tos : (tos : ℕ) → IsBounded (tos_station s time tos).station
+  bounded-tos : (tos : ℕ) → IsBounded (tos_station s time tos).state
   unfolding tos_station
   bounded-tos tos = bounded-left _ s _ ok (λ e. ok)
 
-  bounded-rtt : (peer : ℕ) (rtt : Float) → IsBounded (rtt_station s time peer rtt).station
+  bounded-rtt : (peer : ℕ) (rtt : Float) → IsBounded (rtt_station s time peer rtt).state
   unfolding rtt_station sampled
   bounded-rtt peer rtt =
       bounded-left _ s _ ok
@@ -178,31 +180,30 @@ module _ (s : Station) (time : ℕ) (ok : IsBounded s) where
   small-shared : (rate : ℕ) → IsSmall (reallocated s.controller.allocator s.config.controller.allocation rate).table s.roster.count
   small-shared rate = small-reallocated s.controller.allocator s.config.controller.allocation rate s.roster.count ok.0
 
-  bounded-leaves : (k : CoreTicked) → IsBounded (tick_leaves s time (ticked_with s.controller s.config.controller k)).station
+  bounded-leaves : (k : CoreTicked) → IsBounded (tick_leaves s time (ticked_with s.controller s.config.controller k)).state
   unfolding budgeted_all
   bounded-leaves k =
-      by_test (λ (t : ControllerTicked). IsBounded (tick_leaves s time t).station) k.changed
+      by_test (λ (t : ControllerTicked). IsBounded (tick_leaves s time t).state) k.changed
       (λ e. (small-shared k.core.rate_controller.current_rate, ok.1)) (λ e. ok)
 
-  bounded-ticked : IsBounded (ticked_station s time).station
+  bounded-ticked : IsBounded (ticked_station s time).state
   unfolding ticked_station controller_ticked
   bounded-ticked =
       bounded-left _ s _ ok
       (λ e. bounded-leaves (core_ticked s.controller.core s.config.controller time (any_inflated s.controller.tracker)))
 
-  bounded-rated : (rate : ℕ) → IsBounded (rated_station s time rate).station
+  bounded-rated : (rate : ℕ) → IsBounded (rated_station s time rate).state
   unfolding rated_station controller_set budgeted_all
   bounded-rated rate = bounded-left _ s _ ok (λ e. (small-shared rate, ok.1))
 
   -- hand-ins and send attempts leave the table and the number of writers
-  bounded-handed : (bytes i : ℕ) (c : Priority) (key : InstanceKey) (n : ℕ) → IsBounded (handed_station s bytes time i c key n).station
+  bounded-handed : (bytes i : ℕ) (c : Priority) (key : InstanceKey) (n : ℕ) → IsBounded (handed_station s bytes time i c key n).state
   unfolding handed_station with_pacer
   bounded-handed bytes i c key n = bounded-left _ s _ ok (λ e. ok)
 
-  bounded-sent : (bytes i : ℕ) → IsBounded (sent_station s bytes time i).station
+  bounded-sent : (bytes i : ℕ) → IsBounded (sent_station s bytes time i).state
   unfolding sent_station with_pacer
-  bounded-sent bytes i =
-      by_test (λ (r : StationSent). IsBounded r.station) (eqb (send_answer s bytes time i) 0) (λ e. ok) (λ e. ok)
+  bounded-sent bytes i = bounded-left _ s _ ok (λ e. ok)
 
 -- ---- one item
 
@@ -222,30 +223,41 @@ steady_silent p ok = record { brief = omega arith; bounded = ok }
 steady_fields : (p : Player) (k answer : ℕ) (f : Fields) → IsBounded p.station → IsSteady (saying (line_of k answer (fields f)) p)
 steady_fields p k answer f ok = record { brief = rw length_line (short k answer f); bounded = ok }
 
--- a tick or a rate setting, which may tell every writer's budgets
-steady_rated : (p : Player) (k : ℕ) (x : StationAnswer) → IsBounded x.station → IsSteady (rated p k x)
+-- .. and one that may tell every writer's budgets
+steady_updates : (p : Player) (k answer : ℕ) → IsBounded p.station → IsSteady (saying (line_of k answer (updates (updates_of p.station))) p)
+steady_updates p k answer ok =
+    let few : length (updates_of p.station) ≤ 4 = omega (arith, writers_few _ _ ok.0, ok.1) in
+    record { brief = rw length_line (short-updates k answer (updates_of p.station) few (writers_narrow _ _ ok.0)); bounded = ok }
+
+-- a tick and a rate setting
+steady_ticked : (p : Player) (k : ℕ) (x : Left Station Bool) → IsBounded x.state → IsSteady (ticked p k x)
+unfolding tick_told
+steady_ticked p k x ok = go x.answer
+  where
+    go : (r : Result Bool Refusal) → IsSteady (saying (line_of k (flag_number r) (tick_told (updates_of x.state) r)) (player_of x.state p.clock p.pool))
+    go (Ok true) = steady_updates (player_of x.state p.clock p.pool) k _ ok
+    go (Ok false) = steady_fields (player_of x.state p.clock p.pool) k _ _ ok
+    go (Err e) = steady_fields (player_of x.state p.clock p.pool) k _ _ ok
+
+steady_rated : (p : Player) (k : ℕ) (x : Left Station Unit) → IsBounded x.state → IsSteady (rated p k x)
 unfolding rate_told
-steady_rated p k x ok =
-    let few : length (updates_of x.station) ≤ 4 = omega (arith, writers_few _ _ ok.0, ok.1) in
-    record {
-      brief =
-          by_test (λ (told : Told). length (text_of (line_of k x.answer told ∷ [])) ≤ 168) x.told
-          (λ e. rw length_line (short-updates k x.answer (updates_of x.station) few (writers_narrow _ _ ok.0)))
-          (λ e. rw length_line (short k x.answer _));
-      bounded = ok;
-    }
+steady_rated p k x ok = go x.answer
+  where
+    go : (r : Result Unit Refusal) → IsSteady (saying (line_of k (result_number none_number r) (rate_told (updates_of x.state) r)) (player_of x.state p.clock p.pool))
+    go (Ok u) = steady_updates (player_of x.state p.clock p.pool) k _ ok
+    go (Err e) = steady_fields (player_of x.state p.clock p.pool) k _ _ ok
 
 steady_played : (bytes : List ℕ) (p : Player) (k : ℕ) (item : Item) → IsShortId item → IsBounded p.station → IsSteady (played bytes p k item)
 unfolding played
 steady_played bytes p k End s ok = steady_silent p ok
-steady_played bytes p k Broken s ok = steady_fields p k kind_unknown Nothing ok
+steady_played bytes p k Broken s ok = steady_fields p k (number_of KindUnknown) Nothing ok
 steady_played bytes p k (Advance micros) s ok = steady_silent _ ok
 steady_played bytes p k (Register c id) s ok = steady_fields _ k _ Nothing (bounded-registered p.station p.clock ok id c s)
 steady_played bytes p k Eagain s ok = steady_fields _ k _ Nothing (bounded-eagain p.station p.clock ok)
 steady_played bytes p k (Tos tos) s ok = steady_fields _ k _ _ (bounded-tos p.station p.clock ok tos)
 steady_played bytes p k (Nacks count) s ok = steady_fields _ k _ Nothing (bounded-nacks p.station p.clock ok count)
 steady_played bytes p k (Rtt peer bits) s ok = steady_fields _ k _ Nothing (bounded-rtt p.station p.clock ok peer (of_bits binary32 bits))
-steady_played bytes p k Tick s ok = steady_rated p k _ (bounded-ticked p.station p.clock ok)
+steady_played bytes p k Tick s ok = steady_ticked p k _ (bounded-ticked p.station p.clock ok)
 steady_played bytes p k (HandIn i c n) s ok = steady_fields _ k _ Nothing (bounded-handed p.station p.clock ok _ i c _ n)
 steady_played bytes p k (Send i) s ok = steady_fields _ k _ _ (bounded-sent p.station p.clock ok _ i)
 steady_played bytes p k (SetRate rate) s ok = steady_rated p k _ (bounded-rated p.station p.clock ok rate)
@@ -272,9 +284,9 @@ module _ (bytes : List ℕ) where
   unfolding lines_of
   printed-next p k item items = length-append_text (played bytes p k item).lines _
 
-  printed-end : (p : Player) (k : ℕ) → printed p (placed k Broken ∷ []) ≡ length (line_text k kind_unknown (fields_text Nothing))
+  printed-end : (p : Player) (k : ℕ) → printed p (placed k Broken ∷ []) ≡ length (line_text k (number_of KindUnknown) (fields_text Nothing))
   unfolding lines_of played
-  printed-end p k = length_line (line_of k kind_unknown (fields Nothing))
+  printed-end p k = length_line (line_of k (number_of KindUnknown) (fields Nothing))
 
   -- at most 168 bytes for each word left, and 23 for the end where it is missing
   printed-most : (left k pass : ℕ) (p : Player) → IsBounded p.station → printed p (items_from left bytes k pass) ≤ 168 * left + 23

@@ -13,11 +13,16 @@ use lib.Dec.{ltb, eqb}
 use lib.Ieee.{Float, binary32, of_bits}
 use lib.ListN.{length, drop, replicate, length-append, get_or}
 use Rattle.config.specs.Ledger.{opened, moved, timed_checks, rate_checks}
-use Rattle.config.specs.Refusal.{answer_of}
+use Rattle.config.specs.Refusal.{accepted, verdict_of, none_number, result_number}
+use Rattle.config.specs.declared.alone.Left.{Left}
 use Rattle.config.specs.declared.config.CongestionConfig.{CongestionConfig}
 use Rattle.config.specs.declared.config.Priority.{Priority}
 use Rattle.config.specs.declared.ledger.Ledger.{Ledger}
+use Rattle.config.specs.declared.refusal.Refusal.{Refusal}
+use Rattle.pacing.specs.Ring.{fate_number}
 use Rattle.pacing.specs.WriterPacer as pacer
+use Rattle.pacing.specs.declared.ring.Fate.{Fate}
+use Rattle.pacing.specs.declared.writer_pacer.SendAction.{SendAction}
 use Rattle.pacing.specs.declared.coalescing.InstanceKey.{InstanceKey}
 use Rattle.pacing.specs.declared.writer_pacer.Handed.{Handed}
 use Rattle.pacing.specs.declared.writer_pacer.PacerConfig.{PacerConfig}
@@ -39,13 +44,15 @@ use Rattle.station.specs.declared.roster.Roster.{Roster}
 use Rattle.station.specs.declared.parts.RosterLeft.{RosterLeft}
 use Rattle.station.specs.declared.parts.RowLeft.{RowLeft}
 use Rattle.station.specs.declared.parts.TrackerLeft.{TrackerLeft}
-use Rattle.station.specs.declared.station.StationAnswer.{StationAnswer}
+use Rattle.station.specs.declared.station.Station.{Station}
 use Rattle.station.specs.declared.station.StationConfig.{StationConfig}
 use Rattle.station.proofs.Rows.{left_in, sampled-row}
-use Rattle.station.proofs.Shells.{handed_parts_lem, pool_parts, sent_parts, eagain_parts, nacks_parts, tos_parts, untold_shell, tick_shell, rated_parts, register_parts, rtt_parts, roster_in, tracker_in, rate_in}
+use Rattle.station.proofs.Shells.{handed_parts_lem, pool_parts, sent_parts, eagain_parts, nacks_parts, tos_parts, untold_shell, tick_shell, rated_parts, register_parts, rtt_parts, roster_in, tracker_in, rate_in, changed_in}
 use Rattle.tape.specs.Desk.{Desk, place_of, desk_of, station_at, player_at, end_at, Stands, is_advance, is_hand_in, is_paced, is_signal, is_sample, is_rated, owner_of, rate_for, peer_of, Onward, shared_for, shared_end, halted_at, halted_end, rest_of, Ending, ending_of, ended_with, new_player_over}
 use Rattle.tape.specs.Item.{words_of, words_from, item_at, takes, stops, word_after, key_at, body_at}
-use Rattle.tape.specs.Run.{Player, player_of, Told, fields, updates, told_text, Line, line_of, fields_where, action_fields, rate_told, Step, silent, saying, called, plain, rated, sent_by, played, lines_of, text_of, advanced, tape_settings, new_player, tape_text, room_for, run_of, ran_tape, lines_left}
+use Rattle.tape.specs.Run.{Player, player_of, Told, fields, updates, told_text, Line, line_of, fields_by, flag_number, updates_of, action_fields, tick_told, rate_told, Step, silent, saying, called, plain, sent_by, played, lines_of, text_of, advanced, tape_settings, new_player, tape_text, room_for, run_of, ran_tape, lines_left}
+use Rattle.std.proofs.Common.{Result, Ok, Err, is_ok}
+use Rattle.core.specs.Result.{result_unwrap_or}
 use Rattle.tape.specs.Text.{written, ended, header, fields_text, line_text}
 use Rattle.tape.specs.declared.item.Item.{Item}
 use Rattle.tape.specs.declared.item.Item.TheVariants.{End, Broken, Advance, Register, Eagain, Tos, Nacks, Rtt, Tick, HandIn, Send, SetRate}
@@ -137,15 +144,15 @@ advance_ends bytes ls c d t a words pool micros next h =
 -- what a hand-in of n bytes comes to on the parts
 abbrev pub handed_on : List ℕ → StationConfig → Desk → List ℕ → ℕ → ℕ → Priority → ℕ → Handed
 handed_on bytes c d words room i class n =
-    pacer.handed_by (answer_of (hand_in_checks_on d.place.ledger c.pacer d.roster.count room d.place.clock i n)) d.place.ledger (writer_at d.roster i).pacer words d.place.clock i class (key_at bytes d.place.word class)
+    pacer.handed_by (verdict_of (hand_in_checks_on d.place.ledger c.pacer d.roster.count room d.place.clock i n)) d.place.ledger (writer_at d.roster i).pacer words d.place.clock i class (key_at bytes d.place.word class)
 
 abbrev pub words_handed_on : List ℕ → StationConfig → Desk → List ℕ → ℕ → ℕ → Priority → ℕ → List ℕ
 words_handed_on bytes c d words room i class n =
-    pacer.words_handed_by (answer_of (hand_in_checks_on d.place.ledger c.pacer d.roster.count room d.place.clock i n)) (writer_at d.roster i).pacer words i class (key_at bytes d.place.word class) n
+    pacer.words_handed_by (verdict_of (hand_in_checks_on d.place.ledger c.pacer d.roster.count room d.place.clock i n)) (writer_at d.roster i).pacer words i class (key_at bytes d.place.word class) n
 
 abbrev pub pool_handed_on : List ℕ → StationConfig → Desk → List ℕ → List ℕ → ℕ → Priority → List ℕ → ℕ → List ℕ
 pool_handed_on bytes c d words pool i class sample n =
-    pacer.pool_handed_by (answer_of (hand_in_checks_on d.place.ledger c.pacer d.roster.count (length pool) d.place.clock i n)) (writer_at d.roster i).pacer words c.pacer.limits i class (key_at bytes d.place.word class) sample pool
+    pacer.pool_handed_by (verdict_of (hand_in_checks_on d.place.ledger c.pacer d.roster.count (length pool) d.place.clock i n)) (writer_at d.roster i).pacer words c.pacer.limits i class (key_at bytes d.place.word class) sample pool
 
 -- a desk whose pacer i a call has left
 abbrev pub paced_desk : Desk → ℕ → ℕ → ℕ → Ledger → PacerCore → Desk
@@ -157,18 +164,18 @@ plain_line d answer = line_text d.place.word answer (fields_text Nothing)
 pub hand_in-ends :
     (bytes ls : List ℕ) (c : StationConfig) (d : Desk) (t : PeerRttTracker) (a : BudgetAllocator) (words pool : List ℕ) (i : ℕ) (class : Priority) (n m next : ℕ)
     → Stands bytes d.place.word next (HandIn i class n) → m ≡ length (body_at bytes d.place.word class n)
-    → end_at bytes c (written ls d.place.at (plain_line d (handed_on bytes c d words (length pool) i class m).answer))
-    (paced_desk d next (ended (length ls) d.place.at (length (plain_line d (handed_on bytes c d words (length pool) i class m).answer))) i (handed_on bytes c d words (length pool) i class m).ledger (handed_on bytes c d words (length pool) i class m).core)
+    → end_at bytes c (written ls d.place.at (plain_line d (result_number fate_number (handed_on bytes c d words (length pool) i class m).answer)))
+    (paced_desk d next (ended (length ls) d.place.at (length (plain_line d (result_number fate_number (handed_on bytes c d words (length pool) i class m).answer)))) i (handed_on bytes c d words (length pool) i class m).ledger (handed_on bytes c d words (length pool) i class m).core)
     t a (words_handed_on bytes c d words (length pool) i class m) (pool_handed_on bytes c d words pool i class (body_at bytes d.place.word class n) m)
     ≡ end_at bytes c ls d t a words pool
 unfolding stops played
 hand_in-ends bytes ls c d t a words pool i class n m next h em =
-    subst (λ (m : ℕ). end_at bytes c (written ls d.place.at (plain_line d (handed_on bytes c d words (length pool) i class m).answer))
-    (paced_desk d next (ended (length ls) d.place.at (length (plain_line d (handed_on bytes c d words (length pool) i class m).answer))) i (handed_on bytes c d words (length pool) i class m).ledger (handed_on bytes c d words (length pool) i class m).core)
+    subst (λ (m : ℕ). end_at bytes c (written ls d.place.at (plain_line d (result_number fate_number (handed_on bytes c d words (length pool) i class m).answer)))
+    (paced_desk d next (ended (length ls) d.place.at (length (plain_line d (result_number fate_number (handed_on bytes c d words (length pool) i class m).answer)))) i (handed_on bytes c d words (length pool) i class m).ledger (handed_on bytes c d words (length pool) i class m).core)
     t a (words_handed_on bytes c d words (length pool) i class m) (pool_handed_on bytes c d words pool i class (body_at bytes d.place.word class n) m)
     ≡ end_at bytes c ls d t a words pool) (sym (em ∙ body_whole bytes d.place.word i class n h.0))
     (said_ending bytes ls d.place.at (player_at c d t a words pool) d.place.word (HandIn i class n) _ _ next h.0 refl
-    (ap₂ (λ (x : StationAnswer) (left : List ℕ). called (player_of (station_at c d t a words) d.place.clock left) d.place.word (fields Nothing) x)
+    (ap₂ (λ (x : Left Station Fate) (left : List ℕ). called fate_number (player_of (station_at c d t a words) d.place.clock left) d.place.word (fields Nothing) x)
     (sym (handed_parts_lem (station_at c d t a words) (length pool) d.place.clock i class (key_at bytes d.place.word class) n))
     (sym (pool_parts (station_at c d t a words) (length pool) d.place.clock i class (key_at bytes d.place.word class) (body_at bytes d.place.word class n) n pool)))
     h.1)
@@ -176,14 +183,14 @@ hand_in-ends bytes ls c d t a words pool i class n m next h em =
 -- what a send attempt comes to on the parts
 abbrev pub tried_on : StationConfig → Desk → List ℕ → ℕ → ℕ → SendTried
 tried_on c d words room i =
-    pacer.sent_by (answer_of (send_checks_on d.place.ledger c.pacer d.roster.count room d.place.clock i)) c.pacer.enabled d.place.ledger (writer_at d.roster i).pacer words d.place.clock i
+    pacer.sent_by (verdict_of (send_checks_on d.place.ledger c.pacer d.roster.count room d.place.clock i)) c.pacer.enabled d.place.ledger (writer_at d.roster i).pacer words d.place.clock i
 
 abbrev pub words_tried_on : StationConfig → Desk → List ℕ → ℕ → ℕ → List ℕ
 words_tried_on c d words room i =
-    pacer.words_sent_by (answer_of (send_checks_on d.place.ledger c.pacer d.roster.count room d.place.clock i)) c.pacer.enabled (writer_at d.roster i).pacer words d.place.clock i
+    pacer.words_sent_by (verdict_of (send_checks_on d.place.ledger c.pacer d.roster.count room d.place.clock i)) c.pacer.enabled (writer_at d.roster i).pacer words d.place.clock i
 
 abbrev pub sent_line : Desk → SendTried → List ℕ
-sent_line d x = line_text d.place.word x.answer (fields_text (fields_where x.answer (action_fields x.action)))
+sent_line d x = line_text d.place.word (result_number pacer.action_number x.answer) (fields_text (fields_by action_fields x.answer))
 
 pub send-ends :
     (bytes ls : List ℕ) (c : StationConfig) (d : Desk) (t : PeerRttTracker) (a : BudgetAllocator) (words pool : List ℕ) (i next room : ℕ)
@@ -202,90 +209,93 @@ send-ends bytes ls c d t a words pool i next room h er =
     (ap (sent_by (player_at c d t a words pool) d.place.word) (sym (sent_parts (station_at c d t a words) (length pool) d.place.clock i))) h.1)
 
 -- what a call on the core leaves of a desk, its line written up to a byte
-abbrev pub said_desk : Desk → ℕ → CoreLeft → ℕ → Desk
+abbrev pub said_desk : {T : Type 0} → Desk → ℕ → CoreLeft T → ℕ → Desk
 said_desk d next x at = desk_of (place_of next at d.place.clock x.ledger) x.core d.roster
 
--- a call on the core
-abbrev pub core_line : Desk → CoreLeft → Fields → List ℕ
-core_line d x f = line_text d.place.word x.answer (fields_text f)
+-- the line of a call on the core
+abbrev pub core_line : Desk → ℕ → Fields → List ℕ
+core_line d number f = line_text d.place.word number (fields_text f)
 
-pub core-ends :
-    (bytes ls : List ℕ) (c : StationConfig) (d : Desk) (t : PeerRttTracker) (a : BudgetAllocator) (words pool : List ℕ) (item : Item) (next : ℕ)
-    (told : StationAnswer → Told) (x : StationAnswer) (left : CoreLeft) (f : Fields)
+abbrev flags : Bool → ℕ
+flags b = accepted
+
+-- the end of the run once the call's line is written
+abbrev said_end : {T : Type 0} → List ℕ → StationConfig → List ℕ → Desk → ℕ → CoreLeft T → ℕ → Fields → PeerRttTracker → BudgetAllocator → List ℕ → List ℕ → Ending
+said_end bytes c ls d next left number f t a words pool =
+    end_at bytes c (written ls d.place.at (core_line d number f)) (said_desk d next left (ended (length ls) d.place.at (length (core_line d number f)))) t a words pool
+
+core-ends :
+    {T : Type 0} (bytes ls : List ℕ) (c : StationConfig) (d : Desk) (t : PeerRttTracker) (a : BudgetAllocator) (words pool : List ℕ) (item : Item) (next : ℕ)
+    (number : T → ℕ) (told : Left Station T → Told) (x : Left Station T) (left : CoreLeft T) (f : Fields)
     → Stands bytes d.place.word next item → stops item ≡ false
-    → played bytes (player_at c d t a words pool) d.place.word item ≡ called (player_at c d t a words pool) d.place.word (told x) x
+    → played bytes (player_at c d t a words pool) d.place.word item ≡ called number (player_at c d t a words pool) d.place.word (told x) x
     → core_left_by (station_at c d t a words) left ≡ x → told (core_left_by (station_at c d t a words) left) ≡ fields f
-    → end_at bytes c (written ls d.place.at (core_line d left f)) (said_desk d next left (ended (length ls) d.place.at (length (core_line d left f)))) t a words pool
-    ≡ end_at bytes c ls d t a words pool
-core-ends bytes ls c d t a words pool item next told x left f h es ep ex ef =
+    → said_end bytes c ls d next left (result_number number left.answer) f t a words pool ≡ end_at bytes c ls d t a words pool
+core-ends {T} bytes ls c d t a words pool item next number told x left f h es ep ex ef =
     said_ending bytes ls d.place.at (player_at c d t a words pool) d.place.word item _ _ next h.0 es
-    (ep ∙ (ap (λ (y : StationAnswer). called (player_at c d t a words pool) d.place.word (told y) y) (sym ex)
-    ∙ ap (λ (y : Told). called (player_at c d t a words pool) d.place.word y (core_left_by (station_at c d t a words) left)) ef)) h.1
+    (ep ∙ (ap (λ (y : Left Station T). called number (player_at c d t a words pool) d.place.word (told y) y) (sym ex)
+    ∙ ap (λ (y : Told). called number (player_at c d t a words pool) d.place.word y (core_left_by (station_at c d t a words) left)) ef)) h.1
 
 pub eagain-ends :
-    (bytes ls : List ℕ) (c : StationConfig) (d : Desk) (t : PeerRttTracker) (a : BudgetAllocator) (words pool : List ℕ) (next : ℕ) (left : CoreLeft)
-    → Stands bytes d.place.word next Eagain → left ≡ eagain_core d.place.ledger c.controller d.core d.place.clock
-    → end_at bytes c (written ls d.place.at (core_line d left Nothing)) (said_desk d next left (ended (length ls) d.place.at (length (core_line d left Nothing)))) t a words pool
-    ≡ end_at bytes c ls d t a words pool
+    (bytes ls : List ℕ) (c : StationConfig) (d : Desk) (t : PeerRttTracker) (a : BudgetAllocator) (words pool : List ℕ) (next number : ℕ) (left : CoreLeft Unit)
+    → Stands bytes d.place.word next Eagain → left ≡ eagain_core d.place.ledger c.controller d.core d.place.clock → number ≡ result_number none_number left.answer
+    → said_end bytes c ls d next left number Nothing t a words pool ≡ end_at bytes c ls d t a words pool
 unfolding stops played
-eagain-ends bytes ls c d t a words pool next left h e =
-    core-ends bytes ls c d t a words pool Eagain next (λ (x : StationAnswer). fields Nothing) _ left Nothing h refl refl
-    (ap (core_left_by (station_at c d t a words)) e ∙ eagain_parts (station_at c d t a words) d.place.clock) refl
+eagain-ends bytes ls c d t a words pool next number left h e en =
+    rw en
+    (core-ends bytes ls c d t a words pool Eagain next none_number (λ x. fields Nothing) _ left Nothing h refl refl
+    (ap (core_left_by (station_at c d t a words)) e ∙ eagain_parts (station_at c d t a words) d.place.clock) refl)
 
 pub nacks-ends :
-    (bytes ls : List ℕ) (c : StationConfig) (d : Desk) (t : PeerRttTracker) (a : BudgetAllocator) (words pool : List ℕ) (next count : ℕ) (left : CoreLeft)
-    → Stands bytes d.place.word next (Nacks count) → left ≡ nacks_core d.place.ledger c.controller d.core d.place.clock count
-    → end_at bytes c (written ls d.place.at (core_line d left Nothing)) (said_desk d next left (ended (length ls) d.place.at (length (core_line d left Nothing)))) t a words pool
-    ≡ end_at bytes c ls d t a words pool
+    (bytes ls : List ℕ) (c : StationConfig) (d : Desk) (t : PeerRttTracker) (a : BudgetAllocator) (words pool : List ℕ) (next count number : ℕ) (left : CoreLeft Unit)
+    → Stands bytes d.place.word next (Nacks count) → left ≡ nacks_core d.place.ledger c.controller d.core d.place.clock count → number ≡ result_number none_number left.answer
+    → said_end bytes c ls d next left number Nothing t a words pool ≡ end_at bytes c ls d t a words pool
 unfolding stops played
-nacks-ends bytes ls c d t a words pool next count left h e =
-    core-ends bytes ls c d t a words pool (Nacks count) next (λ (x : StationAnswer). fields Nothing) _ left Nothing h refl refl
-    (ap (core_left_by (station_at c d t a words)) e ∙ nacks_parts (station_at c d t a words) d.place.clock count) refl
+nacks-ends bytes ls c d t a words pool next count number left h e en =
+    rw en
+    (core-ends bytes ls c d t a words pool (Nacks count) next none_number (λ x. fields Nothing) _ left Nothing h refl refl
+    (ap (core_left_by (station_at c d t a words)) e ∙ nacks_parts (station_at c d t a words) d.place.clock count) refl)
 
 pub tos-ends :
-    (bytes ls : List ℕ) (c : StationConfig) (d : Desk) (t : PeerRttTracker) (a : BudgetAllocator) (words pool : List ℕ) (next tos : ℕ) (left : CoreLeft) (f : Fields)
-    → Stands bytes d.place.word next (Tos tos) → left ≡ tos_core d.place.ledger c.controller d.core d.place.clock tos → f ≡ fields_where left.answer (Flag left.told)
-    → end_at bytes c (written ls d.place.at (core_line d left f)) (said_desk d next left (ended (length ls) d.place.at (length (core_line d left f)))) t a words pool
-    ≡ end_at bytes c ls d t a words pool
+    (bytes ls : List ℕ) (c : StationConfig) (d : Desk) (t : PeerRttTracker) (a : BudgetAllocator) (words pool : List ℕ) (next tos number : ℕ) (left : CoreLeft Bool) (f : Fields)
+    → Stands bytes d.place.word next (Tos tos) → left ≡ tos_core d.place.ledger c.controller d.core d.place.clock tos
+    → number ≡ flag_number left.answer → f ≡ fields_by Flag left.answer
+    → said_end bytes c ls d next left number f t a words pool ≡ end_at bytes c ls d t a words pool
 unfolding stops played
-tos-ends bytes ls c d t a words pool next tos left f h e ef =
-    core-ends bytes ls c d t a words pool (Tos tos) next (λ (x : StationAnswer). fields (fields_where x.answer (Flag x.told))) _ left f h refl refl
-    (ap (core_left_by (station_at c d t a words)) e ∙ tos_parts (station_at c d t a words) d.place.clock tos) (ap fields (sym ef))
+tos-ends bytes ls c d t a words pool next tos number left f h e en ef =
+    rw en
+    (core-ends bytes ls c d t a words pool (Tos tos) next flags (λ (x : Left Station Bool). fields (fields_by Flag x.answer)) _ left f h refl refl
+    (ap (core_left_by (station_at c d t a words)) e ∙ tos_parts (station_at c d t a words) d.place.clock tos) (ap fields (sym ef)))
 
--- a tick or a rate setting that gives no new budgets
-abbrev unchanged : CoreLeft → Fields
-unchanged x = fields_where x.answer Unchanged
+-- a tick that gives no new budgets
+abbrev unchanged : Result Bool Refusal → Fields
+unchanged x = fields_by (λ changed. Unchanged) x
 
-untold_ends :
-    (bytes ls : List ℕ) (c : StationConfig) (d : Desk) (t : PeerRttTracker) (a : BudgetAllocator) (words pool : List ℕ) (item : Item) (next rate : ℕ) (x : StationAnswer) (left : CoreLeft)
-    → Stands bytes d.place.word next item → stops item ≡ false
-    → played bytes (player_at c d t a words pool) d.place.word item ≡ rated (player_at c d t a words pool) d.place.word x
-    → shared_by (station_at c d t a words) left d.place.clock rate ≡ x → left.told ≡ false
-    → end_at bytes c (written ls d.place.at (core_line d left (unchanged left))) (said_desk d next left (ended (length ls) d.place.at (length (core_line d left (unchanged left))))) t a words pool
-    ≡ end_at bytes c ls d t a words pool
-unfolding rate_told
-untold_ends bytes ls c d t a words pool item next rate x left h es ep ex et =
-    core-ends bytes ls c d t a words pool item next rate_told x left (unchanged left) h es ep
-    (untold_shell (station_at c d t a words) left d.place.clock rate et ∙ ex) (rw et refl)
+unchanged-told : (ws : List _) (x : Result Bool Refusal) → result_unwrap_or x false ≡ false → tick_told ws x ≡ fields (unchanged x)
+unfolding tick_told fields_by
+unchanged-told ws (Ok true) e = absurd (false≢true (sym e))
+unchanged-told ws (Ok false) e = refl
+unchanged-told ws (Err r) e = refl
 
 pub tick-ends :
-    (bytes ls : List ℕ) (c : StationConfig) (d : Desk) (t : PeerRttTracker) (a : BudgetAllocator) (words pool : List ℕ) (next : ℕ) (inflated : Bool) (left : CoreLeft) (f : Fields)
+    (bytes ls : List ℕ) (c : StationConfig) (d : Desk) (t : PeerRttTracker) (a : BudgetAllocator) (words pool : List ℕ) (next number : ℕ) (inflated : Bool) (left : CoreLeft Bool) (f : Fields)
     → Stands bytes d.place.word next Tick → inflated ≡ any_inflated t → left ≡ ticked_core d.place.ledger c.controller d.core inflated d.place.clock
-    → left.told ≡ false → f ≡ unchanged left
-    → end_at bytes c (written ls d.place.at (core_line d left f)) (said_desk d next left (ended (length ls) d.place.at (length (core_line d left f)))) t a words pool
-    ≡ end_at bytes c ls d t a words pool
+    → changed_in left ≡ false → number ≡ flag_number left.answer → f ≡ unchanged left.answer
+    → said_end bytes c ls d next left number f t a words pool ≡ end_at bytes c ls d t a words pool
 unfolding stops played
-tick-ends bytes ls c d t a words pool next inflated left f h ei e et ef =
-    subst (λ (f : Fields). end_at bytes c (written ls d.place.at (core_line d left f)) (said_desk d next left (ended (length ls) d.place.at (length (core_line d left f)))) t a words pool ≡ end_at bytes c ls d t a words pool) (sym ef)
-    (untold_ends bytes ls c d t a words pool Tick next _ _ left h refl refl
-    (tick_shell (station_at c d t a words) d.place.clock _ left d.core t inflated refl refl ei e refl) et)
+tick-ends bytes ls c d t a words pool next number inflated left f h ei e et en ef =
+    rw en
+    (core-ends bytes ls c d t a words pool Tick next flags (λ (x : Left Station Bool). tick_told (updates_of x.state) x.answer) _ left f h refl refl
+    (untold_shell (station_at c d t a words) left (changed_in left) d.place.clock (rate_in left) et
+    ∙ tick_shell (station_at c d t a words) d.place.clock _ left d.core t inflated refl refl ei e refl)
+    (unchanged-told _ left.answer et ∙ ap fields (sym ef)))
 
 -- ---- the items that touch a table
 
 pub register-ends :
     (bytes ls : List ℕ) (c : StationConfig) (d : Desk) (t : PeerRttTracker) (a : BudgetAllocator) (words pool : List ℕ) (class : Priority) (id next : ℕ) (x : RosterLeft)
     → Stands bytes d.place.word next (Register class id) → x ≡ registered_parts d.place.ledger c.pacer a d.roster d.place.clock id class
-    → end_at bytes c (written ls d.place.at (plain_line d x.answer)) (desk_of (place_of next (ended (length ls) d.place.at (length (plain_line d x.answer))) d.place.clock x.ledger) d.core x.roster) t x.allocator words pool
+    → end_at bytes c (written ls d.place.at (plain_line d (result_number none_number x.answer))) (desk_of (place_of next (ended (length ls) d.place.at (length (plain_line d (result_number none_number x.answer)))) d.place.clock x.ledger) d.core x.roster) t x.allocator words pool
     ≡ end_at bytes c ls d t a words pool
 unfolding stops played
 register-ends bytes ls c d t a words pool class id next x h e =
@@ -296,7 +306,7 @@ register-ends bytes ls c d t a words pool class id next x h e =
 pub sample-ends :
     (bytes ls : List ℕ) (c : StationConfig) (d : Desk) (t : PeerRttTracker) (a : BudgetAllocator) (words pool : List ℕ) (peer bits next : ℕ) (rtt : Float) (x : TrackerLeft)
     → Stands bytes d.place.word next (Rtt peer bits) → rtt ≡ of_bits binary32 bits → x ≡ sampled_tracker d.place.ledger c.controller t d.place.clock peer rtt
-    → end_at bytes c (written ls d.place.at (plain_line d x.answer)) (desk_of (place_of next (ended (length ls) d.place.at (length (plain_line d x.answer))) d.place.clock x.ledger) d.core d.roster) x.tracker a words pool
+    → end_at bytes c (written ls d.place.at (plain_line d (result_number none_number x.answer))) (desk_of (place_of next (ended (length ls) d.place.at (length (plain_line d (result_number none_number x.answer)))) d.place.clock x.ledger) d.core d.roster) x.tracker a words pool
     ≡ end_at bytes c ls d t a words pool
 unfolding stops played
 sample-ends bytes ls c d t a words pool peer bits next rtt x h er e =
@@ -311,7 +321,7 @@ pub row_ends :
     → Stands bytes d.place.word next (Rtt peer bits) → rtt ≡ of_bits binary32 bits
     → seat ≡ seat_of t.ids t.count (peer_of (item_at bytes d.place.word)) → r ≡ row_at t seat
     → x ≡ sampled_row d.place.ledger c.controller r seat d.place.clock peer rtt
-    → end_at bytes c (written ls d.place.at (plain_line d x.answer)) (desk_of (place_of next (ended (length ls) d.place.at (length (plain_line d x.answer))) d.place.clock x.ledger) d.core d.roster) (with_row t seat x.row) a words pool
+    → end_at bytes c (written ls d.place.at (plain_line d (result_number none_number x.answer))) (desk_of (place_of next (ended (length ls) d.place.at (length (plain_line d (result_number none_number x.answer)))) d.place.clock x.ledger) d.core d.roster) (with_row t seat x.row) a words pool
     ≡ end_at bytes c ls d t a words pool
 row_ends bytes ls c d t a words pool peer bits next rtt seat r x h er es ew e =
     sample-ends bytes ls c d t a words pool peer bits next rtt (left_in t seat x) h er
@@ -325,93 +335,101 @@ pub row_still :
 row_still bytes ls c d t a words pool seat r e =
     ap (λ (t : PeerRttTracker). end_at bytes c ls d t a words pool) (ap (with_row t seat) e ∙ row_kept t seat)
 
--- the same with another answer and telling
-abbrev left_with : CoreLeft → ℕ → Bool → CoreLeft
-left_with x answer told = record { answer = answer; told = told; ledger = x.ledger; core = x.core }
-
 -- a desk whose item is done but for the sharing out of its rate
-abbrev pub told_desk : Desk → CoreLeft → Desk
+abbrev pub told_desk : {T : Type 0} → Desk → CoreLeft T → Desk
 told_desk d x = desk_of (place_of d.place.word d.place.at d.place.clock x.ledger) x.core d.roster
+
+-- a call on the core whose rate is shared out, accepted
+abbrev taken_core : {T : Type 0} → CoreLeft T → T → CoreLeft T
+taken_core x told = core_left (Ok told) x.ledger x.core
+
+told-core : {T : Type 0} (x : CoreLeft T) (told : T) → x.answer ≡ Ok told → x ≡ taken_core x told
+told-core {T} x told e = ap (λ (r : Result T Refusal). core_left r x.ledger x.core) e
 
 -- new budgets, with their line
 told-ends :
-    (bytes ls : List ℕ) (c : StationConfig) (d : Desk) (t : PeerRttTracker) (a : BudgetAllocator) (words pool : List ℕ) (item : Item) (next rate : ℕ) (x : StationAnswer) (left : CoreLeft)
+    {T : Type 0} (bytes ls : List ℕ) (c : StationConfig) (d : Desk) (t : PeerRttTracker) (a : BudgetAllocator) (words pool : List ℕ) (item : Item) (next rate : ℕ)
+    (number : T → ℕ) (tell : List _ → Result T Refusal → Told) (x : Left Station T) (left : CoreLeft T) (told : T)
+    → number told ≡ 0 → ((ws : List _) → tell ws (Ok told) ≡ updates ws)
     → Stands bytes d.place.word next item → stops item ≡ false
-    → played bytes (player_at c d t a words pool) d.place.word item ≡ rated (player_at c d t a words pool) d.place.word x
-    → shared_by (station_at c d t a words) left d.place.clock rate ≡ x → left.answer ≡ 0 → left.told ≡ true
+    → played bytes (player_at c d t a words pool) d.place.word item ≡ called number (player_at c d t a words pool) d.place.word (tell (updates_of x.state) x.answer) x
+    → shared_by (station_at c d t a words) left true d.place.clock rate ≡ x → left.answer ≡ Ok told
     → shared_end bytes c ls (told_desk d left) next rate t a words pool ≡ end_at bytes c ls d t a words pool
-unfolding rate_told shared_by
-told-ends bytes ls c d t a words pool item next rate x left h es ep ex ea et =
+unfolding shared_by
+told-ends {T} bytes ls c d t a words pool item next rate number tell x left told zero says h es ep ex ea =
     said_ending bytes ls d.place.at (player_at c d t a words pool) d.place.word item
     (line_of d.place.word 0 (updates (writers_of (shared_for c d.place d.roster a rate).allocator.table))) _ next h.0 es
-    (ep ∙ (ap (rated (player_at c d t a words pool) d.place.word) (sym ex)
-    ∙ ap (λ (y : CoreLeft). rated (player_at c d t a words pool) d.place.word (shared_by (station_at c d t a words) y d.place.clock rate)) (ap₂ (left_with left) ea et))) h.1
+    (ep ∙ (ap (λ (y : Left Station T). called number (player_at c d t a words pool) d.place.word (tell (updates_of y.state) y.answer) y) (sym ex)
+    ∙ (ap (λ (r : Result T Refusal). saying (line_of d.place.word (result_number number r) (tell (updates_of (shared_by (station_at c d t a words) left true d.place.clock rate).state) r)) (player_of (shared_by (station_at c d t a words) left true d.place.clock rate).state d.place.clock pool)) ea
+    ∙ ap₂ (λ (n : ℕ) (y : Told). saying (line_of d.place.word n y) (player_of (shared_by (station_at c d t a words) left true d.place.clock rate).state d.place.clock pool)) zero (says _)))) h.1
 
--- a rate is shared out by an accepted call only
-pub told-accepted :
-    (a : ℕ) (l : Ledger) (k : ControllerCore) (time : ℕ) (told : Bool) (after : ControllerCore) → (called_core a l k time told after).told ≡ true → (called_core a l k time told after).answer ≡ 0
-unfolding called_core
-told-accepted a l k time told after = go (eqb a 0)
-  where
-    go :
-        (b : Bool) → (cond {A = CoreLeft} b (core_left 0 told (moved l time) after) (core_left a false l k)).told ≡ true
-        → (cond {A = CoreLeft} b (core_left 0 told (moved l time) after) (core_left a false l k)).answer ≡ 0
-    go true e = refl
-    go false e = absurd (false≢true e)
+changed-ok : (x : Result Bool Refusal) → result_unwrap_or x false ≡ true → x ≡ Ok true
+changed-ok (Ok true) e = refl
+changed-ok (Ok false) e = absurd (false≢true e)
+changed-ok (Err r) e = absurd (false≢true e)
 
-tick-accepted :
-    (l : Ledger) (c : ControllerConfig) (k : ControllerCore) (inflated : Bool) (time : ℕ) → (ticked_core l c k inflated time).told ≡ true → (ticked_core l c k inflated time).answer ≡ 0
-unfolding ticked_core
-tick-accepted l c k inflated time =
-    told-accepted (answer_of (timed_checks l time)) l k time (core_ticked k c time inflated).changed (core_ticked k c time inflated).core
+taken-ok : (x : Result Unit Refusal) → is_ok x ≡ true → x ≡ Ok tt
+taken-ok (Ok u) e = refl
+taken-ok (Err r) e = absurd (false≢true e)
 
-rate-accepted :
-    (l : Ledger) (c : ControllerConfig) (k : ControllerCore) (time rate : ℕ) → (rated_core l c k time rate).told ≡ true → (rated_core l c k time rate).answer ≡ 0
-unfolding rated_core
-rate-accepted l c k time rate = told-accepted (answer_of (rate_checks l time rate)) l k time true (core_set k c time rate)
+says-ticked : (ws : List _) → tick_told ws (Ok true) ≡ updates ws
+unfolding tick_told
+says-ticked ws = refl
+
+says-rated : (ws : List _) → rate_told ws (Ok tt) ≡ updates ws
+unfolding rate_told
+says-rated ws = refl
 
 -- a tick that changed the rate
 pub tick-told-ends :
-    (bytes ls : List ℕ) (c : StationConfig) (d : Desk) (t : PeerRttTracker) (a : BudgetAllocator) (words pool : List ℕ) (next : ℕ) (inflated : Bool) (left : CoreLeft)
+    (bytes ls : List ℕ) (c : StationConfig) (d : Desk) (t : PeerRttTracker) (a : BudgetAllocator) (words pool : List ℕ) (next : ℕ) (inflated : Bool) (left : CoreLeft Bool)
     → Stands bytes d.place.word next Tick → inflated ≡ any_inflated t → left ≡ ticked_core d.place.ledger c.controller d.core inflated d.place.clock
-    → left.told ≡ true
+    → changed_in left ≡ true
     → halted_end bytes c ls (told_desk d left) t a words pool ≡ end_at bytes c ls d t a words pool
 unfolding stops played halted_end
 tick-told-ends bytes ls c d t a words pool next inflated left h ei e et =
     ap (λ (i : Item). halted_at i bytes c ls (told_desk d left) t a words pool) h.0
     ∙ rw (sym h.1)
-    (told-ends bytes ls c d t a words pool Tick next (rate_in left) _ left h refl refl
-    (tick_shell (station_at c d t a words) d.place.clock (rate_in left) left d.core t inflated refl refl ei e refl)
-    (subst (λ (x : CoreLeft). x.told ≡ true → x.answer ≡ 0) (sym e) (tick-accepted d.place.ledger c.controller d.core inflated d.place.clock) et) et)
+    (told-ends bytes ls c d t a words pool Tick next (rate_in left) flags tick_told _ left true refl says-ticked h refl refl
+    (ap (λ (b : Bool). shared_by (station_at c d t a words) left b d.place.clock (rate_in left)) (sym et)
+    ∙ tick_shell (station_at c d t a words) d.place.clock (rate_in left) left d.core t inflated refl refl ei e refl)
+    (changed-ok left.answer et))
 
 set_rate-played :
-    (c : StationConfig) (d : Desk) (t : PeerRttTracker) (a : BudgetAllocator) (words : List ℕ) (rate : ℕ) (left : CoreLeft) → left ≡ rated_core d.place.ledger c.controller d.core d.place.clock rate
-    → shared_by (station_at c d t a words) left d.place.clock rate ≡ rated_station (station_at c d t a words) d.place.clock rate
-set_rate-played c d t a words rate left e =
-    ap (λ (x : CoreLeft). shared_by (station_at c d t a words) x d.place.clock rate) e ∙ rated_parts (station_at c d t a words) d.place.clock rate
+    (c : StationConfig) (d : Desk) (t : PeerRttTracker) (a : BudgetAllocator) (words : List ℕ) (rate : ℕ) (left : CoreLeft Unit) → left ≡ rated_core d.place.ledger c.controller d.core d.place.clock rate
+    → shared_by (station_at c d t a words) left (is_ok left.answer) d.place.clock rate ≡ rated_station (station_at c d t a words) d.place.clock rate
+set_rate-played c d t a words rate left e = rated_parts (station_at c d t a words) d.place.clock rate left e
 
 -- a rate setting that is to be shared out
 pub set_rate-told-ends :
-    (bytes ls : List ℕ) (c : StationConfig) (d : Desk) (t : PeerRttTracker) (a : BudgetAllocator) (words pool : List ℕ) (next rate : ℕ) (left : CoreLeft)
-    → Stands bytes d.place.word next (SetRate rate) → left ≡ rated_core d.place.ledger c.controller d.core d.place.clock rate → left.told ≡ true
+    (bytes ls : List ℕ) (c : StationConfig) (d : Desk) (t : PeerRttTracker) (a : BudgetAllocator) (words pool : List ℕ) (next rate : ℕ) (left : CoreLeft Unit)
+    → Stands bytes d.place.word next (SetRate rate) → left ≡ rated_core d.place.ledger c.controller d.core d.place.clock rate → is_ok left.answer ≡ true
     → halted_end bytes c ls (told_desk d left) t a words pool ≡ end_at bytes c ls d t a words pool
 unfolding stops played halted_end
 set_rate-told-ends bytes ls c d t a words pool next rate left h e et =
     ap (λ (i : Item). halted_at i bytes c ls (told_desk d left) t a words pool) h.0
     ∙ rw (sym h.1)
-    (told-ends bytes ls c d t a words pool (SetRate rate) next rate _ left h refl refl (set_rate-played c d t a words rate left e)
-    (subst (λ (x : CoreLeft). x.told ≡ true → x.answer ≡ 0) (sym e) (rate-accepted d.place.ledger c.controller d.core d.place.clock rate) et) et)
+    (told-ends bytes ls c d t a words pool (SetRate rate) next rate none_number rate_told _ left tt refl says-rated h refl refl
+    (ap (λ (b : Bool). shared_by (station_at c d t a words) left b d.place.clock rate) (sym et) ∙ set_rate-played c d t a words rate left e)
+    (taken-ok left.answer et))
+
+down-told : (ws : List _) (x : Result Unit Refusal) → is_ok x ≡ false → rate_told ws x ≡ fields Nothing
+unfolding rate_told
+down-told ws (Ok u) e = absurd (false≢true (sym e))
+down-told ws (Err r) e = refl
 
 -- .. or turned down
 pub set_rate-ends :
-    (bytes ls : List ℕ) (c : StationConfig) (d : Desk) (t : PeerRttTracker) (a : BudgetAllocator) (words pool : List ℕ) (next rate : ℕ) (left : CoreLeft) (f : Fields)
-    → Stands bytes d.place.word next (SetRate rate) → left ≡ rated_core d.place.ledger c.controller d.core d.place.clock rate → left.told ≡ false → f ≡ unchanged left
-    → end_at bytes c (written ls d.place.at (core_line d left f)) (said_desk d next left (ended (length ls) d.place.at (length (core_line d left f)))) t a words pool
-    ≡ end_at bytes c ls d t a words pool
+    (bytes ls : List ℕ) (c : StationConfig) (d : Desk) (t : PeerRttTracker) (a : BudgetAllocator) (words pool : List ℕ) (next rate number : ℕ) (left : CoreLeft Unit)
+    → Stands bytes d.place.word next (SetRate rate) → left ≡ rated_core d.place.ledger c.controller d.core d.place.clock rate → is_ok left.answer ≡ false
+    → number ≡ result_number none_number left.answer
+    → said_end bytes c ls d next left number Nothing t a words pool ≡ end_at bytes c ls d t a words pool
 unfolding stops played
-set_rate-ends bytes ls c d t a words pool next rate left f h e et ef =
-    subst (λ (f : Fields). end_at bytes c (written ls d.place.at (core_line d left f)) (said_desk d next left (ended (length ls) d.place.at (length (core_line d left f)))) t a words pool ≡ end_at bytes c ls d t a words pool) (sym ef)
-    (untold_ends bytes ls c d t a words pool (SetRate rate) next rate _ left h refl refl (set_rate-played c d t a words rate left e) et)
+set_rate-ends bytes ls c d t a words pool next rate number left h e et en =
+    rw en
+    (core-ends bytes ls c d t a words pool (SetRate rate) next none_number (λ (x : Left Station Unit). rate_told (updates_of x.state) x.answer) _ left Nothing h refl refl
+    (untold_shell (station_at c d t a words) left (is_ok left.answer) d.place.clock rate et ∙ set_rate-played c d t a words rate left e)
+    (down-told _ left.answer et))
 
 -- ---- where the tape stops
 
@@ -755,17 +773,18 @@ room_for_lem room words h = go (dec_le (24 + 192 * words) room)
 
 pub hand_in_shell :
     (bytes ls : List ℕ) (c : StationConfig) (d : Desk) (t : PeerRttTracker) (a : BudgetAllocator) (words pool : List ℕ) (i : ℕ) (class : Priority) (n next : ℕ)
-    (h : Handed) (words' pool' ls' : List ℕ) (at' : ℕ) (r : Roster) (sample : List ℕ) (key : InstanceKey) (k : PacerCore) (count : ℕ) (settings : PacerConfig)
+    (h : Handed) (number : ℕ) (words' pool' ls' : List ℕ) (at' : ℕ) (r : Roster) (sample : List ℕ) (key : InstanceKey) (k : PacerCore) (count : ℕ) (settings : PacerConfig)
     → Stands bytes d.place.word next (HandIn i class n)
     → settings ≡ c.pacer → count ≡ d.roster.count → k ≡ (writer_at d.roster i).pacer → key ≡ key_at bytes d.place.word class → sample ≡ body_at bytes d.place.word class n
-    → h ≡ pacer.handed_by (answer_of (hand_in_checks_on d.place.ledger settings count (length pool) d.place.clock i (length sample))) d.place.ledger k words d.place.clock i class key
-    → words' ≡ pacer.words_handed_by (answer_of (hand_in_checks_on d.place.ledger settings count (length pool) d.place.clock i (length sample))) k words i class key (length sample)
-    → pool' ≡ pacer.pool_handed_by (answer_of (hand_in_checks_on d.place.ledger settings count (length pool) d.place.clock i (length sample))) k words settings.limits i class key sample pool
-    → ls' ≡ written ls d.place.at (plain_line d h.answer) → at' ≡ ended (length ls) d.place.at (length (plain_line d h.answer))
+    → h ≡ pacer.handed_by (verdict_of (hand_in_checks_on d.place.ledger settings count (length pool) d.place.clock i (length sample))) d.place.ledger k words d.place.clock i class key
+    → words' ≡ pacer.words_handed_by (verdict_of (hand_in_checks_on d.place.ledger settings count (length pool) d.place.clock i (length sample))) k words i class key (length sample)
+    → pool' ≡ pacer.pool_handed_by (verdict_of (hand_in_checks_on d.place.ledger settings count (length pool) d.place.clock i (length sample))) k words settings.limits i class key sample pool
+    → number ≡ result_number fate_number h.answer
+    → ls' ≡ written ls d.place.at (plain_line d number) → at' ≡ ended (length ls) d.place.at (length (plain_line d number))
     → r ≡ with_pacer d.roster i h.core
     → end_at bytes c ls' (desk_of (place_of next at' d.place.clock h.ledger) d.core r) t a words' pool' ≡ end_at bytes c ls d t a words pool
-hand_in_shell bytes ls c d t a words pool i class n next h words' pool' ls' at' r sample key k count settings st es ec ek ey eb eh ew ep el ea er =
-    rw (er, ea, el, ep, ew, eh, eb, ey, ek, ec, es) (hand_in-ends bytes ls c d t a words pool i class n _ next st refl)
+hand_in_shell bytes ls c d t a words pool i class n next h number words' pool' ls' at' r sample key k count settings st es ec ek ey eb eh ew ep en el ea er =
+    rw (er, ea, el, en, ep, ew, eh, eb, ey, ek, ec, es) (hand_in-ends bytes ls c d t a words pool i class n _ next st refl)
 
 -- a run's first desk
 pub start_shell :

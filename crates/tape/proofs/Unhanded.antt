@@ -5,6 +5,9 @@ use mathlib.Core.List.{List, [], ◌∷◌, ◌++◌, map}
 use mathlib.Core.Path.{◌≡◌, refl, ap, sym, ◌∙◌}
 use lib.Dec.{eqb}
 use lib.ListN.{length, drop, take}
+use Rattle.std.proofs.Common.{Result, Ok, Err}
+use Rattle.config.specs.declared.alone.Left.{Left}
+use Rattle.config.specs.declared.refusal.Refusal.{Refusal}
 use Rattle.pacing.specs.WriterPacer.{attempt, paid, limited, attempt_by, rate_set, send_noted}
 use Rattle.pacing.specs.declared.writer_pacer.Attempt.{Attempt}
 use Rattle.pacing.specs.declared.writer_pacer.PacerConfig.{PacerConfig}
@@ -14,15 +17,13 @@ use Rattle.control.specs.BudgetAllocator.{is_known, place_of, row_at}
 use Rattle.control.specs.Controller.{controller_ticked}
 use Rattle.control.specs.declared.budget_allocator.WriterTable.{WriterTable}
 use Rattle.control.specs.declared.controller.ControllerTicked.{ControllerTicked}
-use Rattle.station.specs.Station.{writer_of, no_writer, writer_at, pacer_in, taken_of, joined, with_pacer, station_of, answer_with, turned_down, left_by, first_pacer, register_leaves, registered_station, steered, eagain_station, nacks_station, tos_station, rtt_station, budgeted, budgeted_all, allotted, tick_leaves, ticked_station, rated_station, send_answer, send_leaves, sent_station}
+use Rattle.station.specs.Station.{writer_of, no_writer, writer_at, pacer_in, taken_of, joined, with_pacer, station_of, answer_with, left_by, first_pacer, register_leaves, registered_station, steered, eagain_station, nacks_station, tos_station, rtt_station, budgeted, budgeted_all, allotted, tick_leaves, ticked_station, rated_station, send_verdict, send_leaves, sent_station}
 use Rattle.station.specs.declared.roster.Roster.{Roster}
 use Rattle.station.specs.declared.roster.Writer.{Writer}
 use Rattle.station.specs.declared.station.Station.{Station}
-use Rattle.station.specs.declared.station.StationAnswer.{StationAnswer}
-use Rattle.station.specs.declared.station.StationSent.{StationSent}
 use Rattle.tape.specs.Desk.{ending_of, is_hand_in, new_player_over, hands_in}
 use Rattle.tape.specs.Item.{words_of, item_at, takes, word_after, Placed, placed, is_end, stops, items_from, items_of}
-use Rattle.tape.specs.Run.{Player, player_of, new_player, rate_told, Step, plain, flagged, rated, sent_by, played, lines_of}
+use Rattle.tape.specs.Run.{Player, player_of, new_player, Step, plain, flagged, ticked, rated, sent_by, played, lines_of}
 use Rattle.tape.specs.declared.item.Item.{Item}
 use Rattle.tape.specs.declared.item.Item.TheVariants.{End, Broken, Advance, Register, Eagain, Tos, Nacks, Rtt, Tick, HandIn, Send, SetRate}
 use Rattle.tape.proofs.Each.{Each, each_append, each_take, each_drop, each_set, each_replicate, each_map, each_at}
@@ -85,67 +86,48 @@ idle-paced g i h = each_set IsIdleWriter g.writers i _ (idle_at g i h) h
 abbrev over : Station → List ℕ → Station
 over s words = station_of s.ledger s.config s.controller s.roster words
 
-abbrev over_answer : StationAnswer → List ℕ → StationAnswer
-over_answer x words = answer_with x.answer x.told (over x.station words)
+abbrev over_left : {T : Type 0} → Left Station T → List ℕ → Left Station T
+over_left x words = answer_with x.answer (over x.state words)
 
-abbrev over_sent : StationSent → List ℕ → StationSent
-over_sent x words = record { answer = x.answer; action = x.action; station = over x.station words }
-
-left_over : (answer : ℕ) (s : Station) (words : List ℕ) (x : StationAnswer) → left_by answer (over s words) (over_answer x words) ≡ over_answer (left_by answer s x) words
+left_over : {T : Type 0} (v : Result Unit Refusal) (s : Station) (words : List ℕ) (x : Left Station T) → left_by v (over s words) (over_left x words) ≡ over_left (left_by v s x) words
 unfolding left_by
-left_over answer s words x = go (eqb answer 0)
-  where
-    go : (b : Bool) → cond b (over_answer x words) (turned_down (over s words) answer) ≡ over_answer (cond b x (turned_down s answer)) words
-    go true = refl
-    go false = refl
+left_over (Ok u) s words x = refl
+left_over (Err e) s words x = refl
 
-idle-left : (answer : ℕ) (s : Station) (x : StationAnswer) → AllIdle s.roster → AllIdle x.station.roster → AllIdle (left_by answer s x).station.roster
+idle-left : {T : Type 0} (v : Result Unit Refusal) (s : Station) (x : Left Station T) → AllIdle s.roster → AllIdle x.state.roster → AllIdle (left_by v s x).state.roster
 unfolding left_by
-idle-left answer s x h h' = go (eqb answer 0)
-  where
-    go : (b : Bool) → AllIdle (cond b x (turned_down s answer)).station.roster
-    go true = h'
-    go false = h
+idle-left (Ok u) s x h h' = h'
+idle-left (Err e) s x h h' = h
 
-tick-over : (s : Station) (words : List ℕ) (time : ℕ) (t : ControllerTicked) → tick_leaves (over s words) time t ≡ over_answer (tick_leaves s time t) words
+tick-over : (s : Station) (words : List ℕ) (time : ℕ) (t : ControllerTicked) → tick_leaves (over s words) time t ≡ over_left (tick_leaves s time t) words
 tick-over s words time t = go t.changed
   where
     go : (b : Bool) →
-        cond b (answer_with 0 true (allotted (over s words) time t.controller)) (answer_with 0 false (steered (over s words) time t.controller))
-        ≡ over_answer (cond b (answer_with 0 true (allotted s time t.controller)) (answer_with 0 false (steered s time t.controller))) words
+        cond b (answer_with (Ok true) (allotted (over s words) time t.controller)) (answer_with (Ok false) (steered (over s words) time t.controller))
+        ≡ over_left (cond b (answer_with (Ok true) (allotted s time t.controller)) (answer_with (Ok false) (steered s time t.controller))) words
     go true = refl
     go false = refl
 
-idle-tick : (s : Station) (time : ℕ) (t : ControllerTicked) → AllIdle s.roster → AllIdle (tick_leaves s time t).station.roster
+idle-tick : (s : Station) (time : ℕ) (t : ControllerTicked) → AllIdle s.roster → AllIdle (tick_leaves s time t).state.roster
 idle-tick s time t h = go t.changed
   where
     go : (b : Bool) →
-        AllIdle (cond {A = StationAnswer} b (answer_with 0 true (allotted s time t.controller)) (answer_with 0 false (steered s time t.controller))).station.roster
+        AllIdle (cond {A = Left Station Bool} b (answer_with (Ok true) (allotted s time t.controller)) (answer_with (Ok false) (steered s time t.controller))).state.roster
     go true = idle-budgeted-all s.config.pacer time t.controller.allocator.table s.roster h
     go false = h
 
 sent-over :
-    (s : Station) (words : List ℕ) (bytes time i : ℕ) → AllIdle s.roster → sent_station (over s words) bytes time i ≡ over_sent (sent_station s bytes time i) words
+    (s : Station) (words : List ℕ) (bytes time i : ℕ) → AllIdle s.roster → sent_station (over s words) bytes time i ≡ over_left (sent_station s bytes time i) words
 unfolding sent_station send_noted
 sent-over s words bytes time i h =
     rw (idle-attempt_by s.config.pacer.enabled (pacer_in s i) words i time (idle_at s.roster i h), idle-attempt_by s.config.pacer.enabled (pacer_in s i) s.words i time (idle_at s.roster i h))
-    (go (eqb (send_answer s bytes time i) 0))
-  where
-    go : (b : Bool) →
-        cond b (send_leaves (over s words) time i (nothing_sent (pacer_in s i))) (record { answer = send_answer s bytes time i; action = action.Empty; station = over s words })
-        ≡ over_sent (cond b (send_leaves s time i (nothing_sent (pacer_in s i))) (record { answer = send_answer s bytes time i; action = action.Empty; station = s })) words
-    go true = refl
-    go false = refl
+    (left_over (send_verdict s bytes time i) s words (send_leaves s time i (nothing_sent (pacer_in s i))))
 
-idle-sent : (s : Station) (bytes time i : ℕ) → AllIdle s.roster → AllIdle (sent_station s bytes time i).station.roster
+idle-sent : (s : Station) (bytes time i : ℕ) → AllIdle s.roster → AllIdle (sent_station s bytes time i).state.roster
 unfolding sent_station
 idle-sent s bytes time i h =
-    rw (idle-attempt_by s.config.pacer.enabled (pacer_in s i) s.words i time (idle_at s.roster i h)) (go (eqb (send_answer s bytes time i) 0))
-  where
-    go : (b : Bool) →
-        AllIdle (cond {A = StationSent} b (send_leaves s time i (nothing_sent (pacer_in s i))) (record { answer = send_answer s bytes time i; action = action.Empty; station = s })).station.roster
-    go true = idle-paced s.roster i h
-    go false = h
+    rw (idle-attempt_by s.config.pacer.enabled (pacer_in s i) s.words i time (idle_at s.roster i h))
+    (idle-left (send_verdict s bytes time i) s (send_leaves s time i (nothing_sent (pacer_in s i))) h (idle-paced s.roster i h))
 
 -- ---- an item
 
@@ -161,7 +143,7 @@ tick_of p = controller_ticked p.station.controller p.station.config.controller p
 played-over :
     (bytes : List ℕ) (p : Player) (words : List ℕ) (k : ℕ) (item : Item) → AllIdle p.station.roster → is_hand_in item ≡ false
     → played bytes (over_player p words) k item ≡ over_step (played bytes p k item) words
-unfolding played registered_station register_leaves eagain_station nacks_station tos_station rtt_station ticked_station rated_station rate_told
+unfolding played registered_station register_leaves eagain_station nacks_station tos_station rtt_station ticked_station rated_station
 played-over bytes p words k End h e = refl
 played-over bytes p words k Broken h e = refl
 played-over bytes p words k (Advance micros) h e = refl
@@ -171,7 +153,7 @@ played-over bytes p words k (Tos tos) h e = ap (flagged (over_player p words) k)
 played-over bytes p words k (Nacks count) h e = ap (plain (over_player p words) k) (left_over _ p.station words _)
 played-over bytes p words k (Rtt peer bits) h e = ap (plain (over_player p words) k) (left_over _ p.station words _)
 played-over bytes p words k Tick h e =
-    ap (rated (over_player p words) k)
+    ap (ticked (over_player p words) k)
     (ap (left_by _ (over p.station words)) (tick-over p.station words p.clock (tick_of p)) ∙ left_over _ p.station words _)
 played-over bytes p words k (HandIn i c n) h e = absurd (false≢true (sym e))
 played-over bytes p words k (Send i) h e = ap (sent_by (over_player p words) k) (sent-over p.station words _ p.clock i h)

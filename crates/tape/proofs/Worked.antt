@@ -1,9 +1,9 @@
--- Document 01's whole tape gives the lines that stand there, by computation. Assumes nothing.
+-- The worked tape gives the lines that stand beside it, by computation. Assumes nothing.
 use Prim.Native.Nat.{ℕ}
 use mathlib.Core.List.{List, [], ◌∷◌}
 use mathlib.Core.Path.{◌≡◌, refl}
 use lib.Ieee.{of_int, of_bits, add, mul, div, le, to_unsigned, is_nan}
-use Rattle.config.specs.Refusal.{answer_of}
+use Rattle.config.specs.Refusal.{verdict_of}
 use Rattle.numeric.specs.Float.{scaled}
 use Rattle.numeric.specs.Search.{first}
 use Rattle.pacing.specs.Pool.{is_short}
@@ -18,11 +18,11 @@ use Rattle.control.specs.Scorer as scorer
 use Rattle.control.specs.Scorer.{added_if, impulse_of, congested_at, evaluated_stable, evaluated, ticked}
 use Rattle.station.specs.Station.{is_here, joined, left_by, register_leaves, registered_station, eagain_station, budgeted, budgeted_all, ticked_station, sent_station}
 use Rattle.tape.specs.Item.{word_at, class_of, whole, register_of, signal_of, item_by, item_at, takes, is_end, stops, items_from, items_of}
-use Rattle.tape.specs.Run.{fields_where, rate_told, played, lines_of, text_of, tape_text}
+use Rattle.tape.specs.Run.{fields_by, tick_told, rate_told, played, lines_of, text_of, tape_text}
 use Rattle.tape.specs.Text.{decimal_by, fields_text, update_text, each_text, updates_text, line_text}
 use Rattle.tape.proofs.Items.{whole_tape}
 
--- the bytes of the document's lines
+-- the bytes of the worked tape's lines
 abbrev pub whole_lines : List ℕ
 whole_lines =
     -- word answer fields
@@ -40,5 +40,5 @@ whole_lines =
     ∷ []
 
 pub whole_tape-lines : tape_text whole_tape ≡ whole_lines
-unfolding scaled of_int of_bits add mul div le to_unsigned is_nan answer_of first is_short rate_set paid limited attempt attempt_by any_inflated comes_before place_of place_for lacking with_row allocator.entered is_known without weighed weights_from share_of reserve_of split_of urgent_part left_from shares_of budget_for with_budget allotted_table registered reallocated new_core controller.on_eagain on_inflated on_window steered core_ticked new_controller registered_in controller_ticked decreased with_params changed_to applied scorer.on_eagain added_if impulse_of congested_at evaluated_stable evaluated ticked is_here joined left_by register_leaves registered_station eagain_station budgeted budgeted_all ticked_station sent_station word_at class_of whole register_of signal_of item_by item_at takes is_end stops items_from items_of fields_where rate_told played lines_of text_of tape_text decimal_by fields_text update_text each_text updates_text line_text
+unfolding scaled of_int of_bits add mul div le to_unsigned is_nan verdict_of first is_short rate_set paid limited attempt attempt_by any_inflated comes_before place_of place_for lacking with_row allocator.entered is_known without weighed weights_from share_of reserve_of split_of urgent_part left_from shares_of budget_for with_budget allotted_table registered reallocated new_core controller.on_eagain on_inflated on_window steered core_ticked new_controller registered_in controller_ticked decreased with_params changed_to applied scorer.on_eagain added_if impulse_of congested_at evaluated_stable evaluated ticked is_here joined left_by register_leaves registered_station eagain_station budgeted budgeted_all ticked_station sent_station word_at class_of whole register_of signal_of item_by item_at takes is_end stops items_from items_of fields_by tick_told rate_told played lines_of text_of tape_text decimal_by fields_text update_text each_text updates_text line_text
 whole_tape-lines = refl

@@ -1,21 +1,24 @@
--- The run of a tape (document 01, "The tape"): what each item does to a station, the clock and the pool, and which line it prints.
+-- The run of a tape ("The tape"): what each item does to a station, the clock and the pool, and which line it prints.
 -- Definitions only.
-use Rattle.std.specs.Prelude.{ℕ, ◌+◌, ◌*◌, ◌^◌, min, true, cond, List, [], ◌∷◌, ◌++◌, ltb, eqb, length, drop, replicate}
+use Rattle.std.specs.Prelude.{ℕ, ◌+◌, ◌*◌, ◌^◌, min, Bool, true, false, cond, List, [], ◌∷◌, ◌++◌, ltb, length, drop, replicate, Result, Ok, Err}
 use Rattle.std.specs.Float.{binary32}
 use Rattle.std.specs.Float.Ieee.{of_bits}
 use Rattle.config.specs.Config.{defaults, settings_with}
-use Rattle.config.specs.Refusal.{kind_unknown, buffer_too_short}
+use Rattle.config.specs.Refusal.{accepted, number_of, none_number, result_number}
+use Rattle.config.specs.declared.alone.Left.{Left}
 use Rattle.config.specs.declared.config.CongestionConfig.{CongestionConfig}
 use Rattle.config.specs.declared.config.EcnMode.TheVariants.{Opportunistic}
 use Rattle.config.specs.declared.config.Priority.{Priority}
+use Rattle.config.specs.declared.refusal.Refusal.{Refusal}
+use Rattle.config.specs.declared.refusal.Refusal.TheVariants.{KindUnknown, BufferTooShort}
+use Rattle.pacing.specs.Ring.{fate_number}
+use Rattle.pacing.specs.WriterPacer.{action_number}
 use Rattle.pacing.specs.declared.writer_pacer.SendAction.{SendAction}
 use Rattle.pacing.specs.declared.writer_pacer.SendAction.TheVariants as action
 use Rattle.control.specs.BudgetAllocator.{writers_of}
 use Rattle.control.specs.declared.budget_allocator.WriterInfo.{WriterInfo}
 use Rattle.station.specs.Station.{station_config_of, new_station, registered_station, eagain_station, nacks_station, tos_station, rtt_station, ticked_station, rated_station, handed_station, pool_handed, sent_station}
 use Rattle.station.specs.declared.station.Station.{Station}
-use Rattle.station.specs.declared.station.StationAnswer.{StationAnswer}
-use Rattle.station.specs.declared.station.StationSent.{StationSent}
 use Rattle.tape.specs.Item.{words_of, key_at, body_at, Placed, items_of}
 use Rattle.tape.specs.Text.{header, fields_text, updates_text, line_text}
 use Rattle.tape.specs.declared.item.Item.{Item}
@@ -67,8 +70,13 @@ abbrev pub line_of : ℕ → ℕ → Told → Line
 line_of k answer told = record { index = k; answer = answer; told = told }
 
 -- "words turned down have no fields"
-unfoldable pub fields_where : ℕ → Fields → Fields
-fields_where answer f = cond (eqb answer 0) f Nothing
+unfoldable pub fields_by : {T : Type 0} → (T → Fields) → Result T Refusal → Fields
+fields_by f (Ok t) = f t
+fields_by f (Err e) = Nothing
+
+-- the number of an answer that gives a flag
+abbrev pub flag_number : Result Bool Refusal → ℕ
+flag_number answer = result_number (λ b. accepted) answer
 
 -- "send `sent` class sequence length, `empty`, or `wait` nanoseconds"
 abbrev pub action_fields : SendAction → Fields
@@ -80,8 +88,15 @@ action_fields (action.RateLimited wait) = Wait wait
 abbrev pub updates_of : Station → List WriterInfo
 updates_of s = writers_of s.controller.allocator.table
 
-unfoldable pub rate_told : StationAnswer → Told
-rate_told x = cond x.told (updates (updates_of x.station)) (fields (fields_where x.answer Unchanged))
+-- of a tick, by whether the rate changed
+unfoldable pub tick_told : List WriterInfo → Result Bool Refusal → Told
+tick_told ws (Ok changed) = cond changed (updates ws) (fields Unchanged)
+tick_told ws (Err e) = fields Nothing
+
+-- of a rate setting
+unfoldable pub rate_told : List WriterInfo → Result Unit Refusal → Told
+rate_told ws (Ok u) = updates ws
+rate_told ws (Err e) = fields Nothing
 
 -- ---- one item
 
@@ -96,41 +111,43 @@ silent p = record { lines = []; player = p }
 abbrev pub saying : Line → Player → Step
 saying line p = record { lines = line ∷ []; player = p }
 
--- a call that leaves the pool
-abbrev pub called : Player → ℕ → Told → StationAnswer → Step
-called p k told x = saying (line_of k x.answer told) (player_of x.station p.clock p.pool)
+-- a call that leaves the pool, by the number of what it gives
+abbrev pub called : {T : Type 0} → (T → ℕ) → Player → ℕ → Told → Left Station T → Step
+called number p k told x = saying (line_of k (result_number number x.answer) told) (player_of x.state p.clock p.pool)
 
-abbrev pub plain : Player → ℕ → StationAnswer → Step
-plain p k x = called p k (fields Nothing) x
+abbrev pub plain : Player → ℕ → Left Station Unit → Step
+plain p k x = called none_number p k (fields Nothing) x
 
-abbrev pub flagged : Player → ℕ → StationAnswer → Step
-flagged p k x = called p k (fields (fields_where x.answer (Flag x.told))) x
+abbrev pub flagged : Player → ℕ → Left Station Bool → Step
+flagged p k x = called (λ b. accepted) p k (fields (fields_by Flag x.answer)) x
 
-abbrev pub rated : Player → ℕ → StationAnswer → Step
-rated p k x = called p k (rate_told x) x
+abbrev pub ticked : Player → ℕ → Left Station Bool → Step
+ticked p k x = called (λ b. accepted) p k (tick_told (updates_of x.state) x.answer) x
 
-abbrev pub sent_by : Player → ℕ → StationSent → Step
-sent_by p k x =
-    saying (line_of k x.answer (fields (fields_where x.answer (action_fields x.action)))) (player_of x.station p.clock p.pool)
+abbrev pub rated : Player → ℕ → Left Station Unit → Step
+rated p k x = called none_number p k (rate_told (updates_of x.state) x.answer) x
+
+abbrev pub sent_by : Player → ℕ → Left Station SendAction → Step
+sent_by p k x = called action_number p k (fields (fields_by action_fields x.answer)) x
 
 -- a hand-in of the n bytes that stand behind word k
 abbrev pub handed_by : List ℕ → Player → ℕ → ℕ → Priority → ℕ → Step
 handed_by bytes p k i c n =
-    called
+    called fate_number
     (player_of p.station p.clock (pool_handed p.station (length p.pool) p.clock i c (key_at bytes k c) (body_at bytes k c n) n p.pool))
     k (fields Nothing) (handed_station p.station (length p.pool) p.clock i c (key_at bytes k c) n)
 
 -- the item whose first word is word k
 unfoldable pub played : List ℕ → Player → ℕ → Item → Step
 played bytes p k End = silent p
-played bytes p k Broken = saying (line_of k kind_unknown (fields Nothing)) p
+played bytes p k Broken = saying (line_of k (number_of KindUnknown) (fields Nothing)) p
 played bytes p k (Advance micros) = silent (player_of p.station (advanced p.clock micros) p.pool)
 played bytes p k (Register c id) = plain p k (registered_station p.station p.clock id c)
 played bytes p k Eagain = plain p k (eagain_station p.station p.clock)
 played bytes p k (Tos tos) = flagged p k (tos_station p.station p.clock tos)
 played bytes p k (Nacks count) = plain p k (nacks_station p.station p.clock count)
 played bytes p k (Rtt peer bits) = plain p k (rtt_station p.station p.clock peer (of_bits binary32 bits))
-played bytes p k Tick = rated p k (ticked_station p.station p.clock)
+played bytes p k Tick = ticked p k (ticked_station p.station p.clock)
 played bytes p k (HandIn i c n) = handed_by bytes p k i c n
 played bytes p k (Send i) = sent_by p k (sent_station p.station (length p.pool) p.clock i)
 played bytes p k (SetRate rate) = rated p k (rated_station p.station p.clock rate)
@@ -160,7 +177,7 @@ run_of answer n = record { answer = answer; length = n }
 
 -- "its result being their length"
 unfoldable pub ran_tape : List ℕ → ℕ → TapeRun
-ran_tape bytes room = cond (ltb room (room_for (length bytes))) (run_of buffer_too_short 0) (run_of 0 (length (tape_text bytes)))
+ran_tape bytes room = cond (ltb room (room_for (length bytes))) (run_of (number_of BufferTooShort) 0) (run_of 0 (length (tape_text bytes)))
 
 -- what it leaves of a lent buffer: bytes past the lines keep their old values
 unfoldable pub lines_left : List ℕ → List ℕ → List ℕ

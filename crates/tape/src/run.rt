@@ -1,26 +1,28 @@
 // The run of a tape on a station of its own: each item is decoded, played on the parts of the station that it touches, and answered by a line.
 ghost use Rattle.std.specs.Prelude.{Bool, true, false, List, ◌≡◌, ℕ, ltb, length};
 ghost use Rattle.config.specs.Ledger.{opened};
+ghost use Rattle.pacing.specs.WriterPacer.{action_number};
 ghost use Rattle.tape.specs.Item.{item_at, stops, items_of};
 ghost use Rattle.tape.specs.declared.item.Item.TheVariants.{HandIn, Send, Eagain, Nacks, Tos, Tick, Register, Rtt, SetRate};
-ghost use Rattle.tape.specs.Run.{Player, new_player, tape_settings, advanced, fields_where, action_fields, room_for, ran_tape, lines_left};
+ghost use Rattle.tape.specs.Run.{Player, new_player, tape_settings, advanced, fields_by, flag_number, action_fields, room_for, ran_tape, lines_left};
 ghost use Rattle.tape.specs.Desk.{place_of, Stands, Onward, is_advance, is_hand_in, is_paced, is_signal, is_sample, is_rated, rate_for, peer_of, Waited, PacedOn, SignalledOn, HaltedOn, RowSampledOn, SampledOn, RegisteredOn, shared_for, shared_lines, shared_place, ending_of, ended_with, new_player_over, hands_in, needs_words};
+ghost use Rattle.tape.specs.declared.text.Fields.TheVariants.{Flag, Unchanged};
 ghost use Rattle.tape.specs.Text.{written, ended, fields_text, line_text};
 
 use crate::item::Item;
 use crate::text::Fields;
 use crate::{item, text};
+use config::answer::Numbered;
 use config::config::{CongestionConfig, EcnMode, Priority};
 use config::ledger::Ledger;
-use config::refusal;
+use config::refusal::{ACCEPTED, Refusal};
 use control::budget_allocator::BudgetAllocator;
 use control::controller::ControllerCore;
 use numeric::float::f32_of_bits;
-use numeric::integer::bounded_add;
 use pacing::writer_pacer::SendAction;
 use signals::rtt_estimator::{PeerRow, PeerRttTracker, seat_of};
 use station::parts;
-use station::parts::{CoreLeft, STATION_WORDS};
+use station::parts::STATION_WORDS;
 use station::roster::Roster;
 use station::station::StationConfig;
 
@@ -100,30 +102,59 @@ pub(crate) struct WritersLeft {
 fn settings() -> CongestionConfig
     ensures { result ≡ tape_settings }
 {
-    let defaults = CongestionConfig::new();
     CongestionConfig {
         max_queue_p0: 2,
         max_queue_p1: 4,
         max_queue_p2: 2,
         ecn_mode: EcnMode::Opportunistic,
-        ..defaults
+        ..CongestionConfig::new()
     }
 }
 
 fn advance(clock: u64, micros: u32) -> u64
     ensures { result ≡ advanced clock micros }
 {
-    bounded_add(clock, 1000 * (micros as u64), CLOCK_STOP)
+    clock.saturating_add(1000 * (micros as u64)).min(CLOCK_STOP)
 }
 
-// Words turned down have no fields.
-fn fields_where(answer: u8, fields: Fields) -> Fields
-    ensures { result ≡ fields_where answer fields }
+// The number of an answer that gives a flag.
+fn flag_number(answer: Result<bool, Refusal>) -> u8
+    ensures { result ≡ flag_number answer }
 {
-    if answer != 0 {
-        return Fields::Nothing;
+    match answer {
+        Ok(_) => ACCEPTED,
+        Err(refusal) => refusal.number(),
     }
-    fields
+}
+
+// The flag; words turned down have no fields.
+fn flag_fields(answer: Result<bool, Refusal>) -> Fields
+    ensures { result ≡ fields_by Flag answer }
+{
+    match answer {
+        Ok(flag) => Fields::Flag(flag),
+        Err(_) => Fields::Nothing,
+    }
+}
+
+// A tick that leaves the rate tells so.
+fn unchanged_fields(answer: Result<bool, Refusal>) -> Fields
+    ensures { result ≡ fields_by (λ changed. Unchanged) answer }
+{
+    match answer {
+        Ok(_) => Fields::Unchanged,
+        Err(_) => Fields::Nothing,
+    }
+}
+
+// What a send attempt comes to, where it is not turned down.
+fn attempt_fields(answer: Result<SendAction, Refusal>) -> Fields
+    ensures { result ≡ fields_by action_fields answer }
+{
+    match answer {
+        Ok(action) => action_fields(action),
+        Err(_) => Fields::Nothing,
+    }
 }
 
 // What a send attempt came to.
@@ -233,7 +264,13 @@ fn hand_in(
         item::key_at(tape, place.word, class),
         item::body_at(tape, place.word, class, length),
     );
-    let at = text::put_line(lines, place.at, place.word, handed.answer, Fields::Nothing);
+    let at = text::put_line(
+        lines,
+        place.at,
+        place.word,
+        handed.answer.number(),
+        Fields::Nothing,
+    );
     Paced {
         place: behind(place, next, at, handed.ledger),
         roster: roster.with_pacer(pacer, handed.core),
@@ -265,9 +302,9 @@ fn send(
         place.clock,
         pacer,
     );
-    let action = tried.action;
-    let fields = fields_where(tried.answer, action_fields(action));
-    let at = text::put_line(lines, place.at, place.word, tried.answer, fields);
+    let number = tried.answer.number();
+    let fields = attempt_fields(tried.answer);
+    let at = text::put_line(lines, place.at, place.word, number, fields);
     Paced {
         place: behind(place, next, at, tried.ledger),
         roster: roster.with_pacer(pacer, tried.core),
@@ -349,16 +386,23 @@ fn pace_on(
 }
 
 // What a call on the core leaves, and its line.
-fn say(place: Place, next: usize, left: CoreLeft, fields: Fields, lines: &mut [u8]) -> Signalled
-    ensures place_value { result.place ≡ place_of next (ended (length lines.old) place.at (length (line_text place.word left.answer (fields_text fields)))) place.clock left.ledger }
-    ensures core_value { result.core ≡ left.core }
+fn say(
+    place: Place,
+    next: usize,
+    ledger: Ledger,
+    core: ControllerCore,
+    number: u8,
+    fields: Fields,
+    lines: &mut [u8],
+) -> Signalled
+    ensures place_value { result.place ≡ place_of next (ended (length lines.old) place.at (length (line_text place.word number (fields_text fields)))) place.clock ledger }
+    ensures core_value { result.core ≡ core }
     ensures moved_value { result.moved ≡ true }
-    ensures lines_after { lines.new ≡ written lines.old place.at (line_text place.word left.answer (fields_text fields)) }
+    ensures lines_after { lines.new ≡ written lines.old place.at (line_text place.word number (fields_text fields)) }
 {
-    let at = text::put_line(lines, place.at, place.word, left.answer, fields);
-    let core = left.core;
+    let at = text::put_line(lines, place.at, place.word, number, fields);
     Signalled {
-        place: behind(place, next, at, left.ledger),
+        place: behind(place, next, at, ledger),
         core,
         moved: true,
     }
@@ -376,7 +420,8 @@ fn eagain(
     ensures signalled_on { (bytes : List ℕ) (inflated : Bool) → Stands bytes place.word next Eagain → SignalledOn inflated bytes config lines.old place core lines.new result.place result.core }
 {
     let left = parts::on_eagain(place.ledger, config.controller(), core, place.clock);
-    say(place, next, left, Fields::Nothing, lines)
+    let number = left.answer.number();
+    say(place, next, left.ledger, left.core, number, Fields::Nothing, lines)
 }
 
 fn nacks(
@@ -392,7 +437,8 @@ fn nacks(
     ensures signalled_on { (bytes : List ℕ) (inflated : Bool) → Stands bytes place.word next (Nacks count) → SignalledOn inflated bytes config lines.old place core lines.new result.place result.core }
 {
     let left = parts::on_nacks(place.ledger, config.controller(), core, place.clock, count);
-    say(place, next, left, Fields::Nothing, lines)
+    let number = left.answer.number();
+    say(place, next, left.ledger, left.core, number, Fields::Nothing, lines)
 }
 
 fn tos(
@@ -408,8 +454,9 @@ fn tos(
     ensures signalled_on { (bytes : List ℕ) (inflated : Bool) → Stands bytes place.word next (Tos byte) → SignalledOn inflated bytes config lines.old place core lines.new result.place result.core }
 {
     let left = parts::on_ecn_tos(place.ledger, config.controller(), core, place.clock, byte);
-    let fields = fields_where(left.answer, Fields::Flag(left.told));
-    say(place, next, left, fields, lines)
+    let number = flag_number(left.answer);
+    let fields = flag_fields(left.answer);
+    say(place, next, left.ledger, left.core, number, fields, lines)
 }
 
 // A tick; where it changes the rate, the sharing out and the line are left to the tables.
@@ -433,7 +480,7 @@ fn tick(
         inflated,
         place.clock,
     );
-    if left.told {
+    if left.answer.unwrap_or(false) {
         let ledger = left.ledger;
         let after = left.core;
         return Signalled {
@@ -442,8 +489,9 @@ fn tick(
             moved: false,
         };
     }
-    let fields = fields_where(left.answer, Fields::Unchanged);
-    say(place, next, left, fields, lines)
+    let number = flag_number(left.answer);
+    let fields = unchanged_fields(left.answer);
+    say(place, next, left.ledger, left.core, number, fields, lines)
 }
 
 // A rate setting; where it is accepted, the sharing out and the line are left to the tables.
@@ -467,7 +515,7 @@ fn set_rate(
         place.clock,
         rate_bps,
     );
-    if left.told {
+    if left.answer.is_ok() {
         let ledger = left.ledger;
         let rated = left.core;
         return Signalled {
@@ -476,8 +524,8 @@ fn set_rate(
             moved: false,
         };
     }
-    let fields = fields_where(left.answer, Fields::Unchanged);
-    say(place, next, left, fields, lines)
+    let number = left.answer.number();
+    say(place, next, left.ledger, left.core, number, Fields::Nothing, lines)
 }
 
 // A signal, a tick or a rate setting, after the advances before it.
@@ -570,7 +618,8 @@ fn sample(
                 f32_of_bits(bits),
             );
             let next = item::word_after(tape, place.word, found);
-            let at = text::put_line(lines, place.at, place.word, left.answer, Fields::Nothing);
+            let number = left.answer.number();
+            let at = text::put_line(lines, place.at, place.word, number, Fields::Nothing);
             let after = left.row;
             RowSampled {
                 place: behind(place, next, at, left.ledger),
@@ -648,7 +697,8 @@ fn register(
         id as u64,
         class,
     );
-    let at = text::put_line(lines, place.at, place.word, left.answer, Fields::Nothing);
+    let number = left.answer.number();
+    let at = text::put_line(lines, place.at, place.word, number, Fields::Nothing);
     let writers = left.roster;
     let after = left.allocator;
     WritersLeft {
@@ -739,7 +789,7 @@ fn finish(tape: &[u8], place: Place, lines: &mut [u8]) -> usize
             lines,
             place.at,
             place.word,
-            refusal::KIND_UNKNOWN,
+            Refusal::KindUnknown.number(),
             Fields::Nothing,
         ),
         _ => place.at,
@@ -853,7 +903,7 @@ pub fn run(tape: &[u8], lines: &mut [u8]) -> TapeRun
 {
     if is_short(tape.len(), lines.len()) {
         return TapeRun {
-            answer: refusal::BUFFER_TOO_SHORT,
+            answer: Refusal::BufferTooShort.number(),
             length: 0,
         };
     }

@@ -5,7 +5,6 @@ ghost use Rattle.tape.specs.Text.{written, ended, decimal, marked, header, field
 
 use config::config::Priority;
 use control::budget_allocator::{WriterInfo, WriterTable};
-use numeric::integer::min_u64;
 
 const SPACE: u8 = 32;
 
@@ -100,7 +99,7 @@ fn put_sent(lines: &mut [u8], at: usize, class: Priority, sequence: u64, bytes: 
     ensures value { result ≡ ended (length lines.old) at (length (fields_text (Fields.Sent class sequence bytes))) }
 {
     let next = put_text(lines, at, b" sent");
-    let next = put_marked(lines, next, SPACE, class.number() as u64);
+    let next = put_marked(lines, next, SPACE, u8::from(class) as u64);
     let next = put_marked(lines, next, SPACE, sequence);
     put_marked(lines, next, SPACE, bytes)
 }
@@ -154,7 +153,7 @@ fn put_each(lines: &mut [u8], at: usize, table: WriterTable) -> usize
     ensures value { result ≡ ended (length lines.old) at (length (updates_text (writers_of table))) }
 {
     let rows = table.rows();
-    let count = min_u64(table.count() as u64, MOST_WRITERS);
+    let count = (table.count() as u64).min(MOST_WRITERS);
     let n = count as usize;
     let mut next = put_marked(lines, at, SPACE, count);
     let mut k: usize = 0;

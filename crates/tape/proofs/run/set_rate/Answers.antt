@@ -6,4 +6,4 @@ pub returns-then-left-clause-halted_on : goal.returns-then-left-clause-halted_on
 returns-then-left-clause-halted_on c = let a = c.args in λ bytes inflated h e g t w words pool ei. set_rate-told-ends bytes _ a.config (desk_of a.place a.core g) t w words pool a.next a.rate_bps c.set_rate-left.result h (rw (c.set_rate-left.ensures, c.controller.ensures)) c.if-left.true
 
 pub returns-clause-signalled_on : goal.returns-clause-signalled_on
-returns-clause-signalled_on c = let a = c.args in let said = c.say.ensures in rw (said.place_value, said.core_value, said.lines_after) (λ bytes inflated h e g t w words pool ei. set_rate-ends bytes _ a.config (desk_of a.place a.core g) t w words pool a.next a.rate_bps c.set_rate-left.result _ h (rw (c.set_rate-left.ensures, c.controller.ensures)) c.if-left.false c.fields_where-fields.ensures)
+returns-clause-signalled_on c = let a = c.args in let said = c.say.ensures in rw (said.place_value, said.core_value, said.lines_after) (λ bytes inflated h e g t w words pool ei. set_rate-ends bytes _ a.config (desk_of a.place a.core g) t w words pool a.next a.rate_bps _ c.set_rate-left.result h (rw (c.set_rate-left.ensures, c.controller.ensures)) c.if-left.false c.number-number.ensures)
