@@ -52,7 +52,7 @@ use Rattle.tape.specs.Desk.{Desk, place_of, desk_of, station_at, player_at, end_
 use Rattle.tape.specs.Item.{words_of, words_from, item_at, takes, stops, word_after, key_at, body_at}
 use Rattle.tape.specs.Run.{Player, player_of, Told, fields, updates, told_text, Line, line_of, fields_by, flag_number, updates_of, action_fields, tick_told, rate_told, Step, silent, saying, called, plain, sent_by, played, lines_of, text_of, advanced, tape_settings, new_player, tape_text, room_for, run_of, ran_tape, lines_left}
 use Rattle.std.proofs.Common.{Result, Ok, Err, is_ok}
-use Rattle.core.specs.Result.{result_unwrap_or}
+use Rattle.std.specs.Result.{result_unwrap_or}
 use Rattle.tape.specs.Text.{written, ended, header, fields_text, line_text}
 use Rattle.tape.specs.declared.item.Item.{Item}
 use Rattle.tape.specs.declared.item.Item.TheVariants.{End, Broken, Advance, Register, Eagain, Tos, Nacks, Rtt, Tick, HandIn, Send, SetRate}

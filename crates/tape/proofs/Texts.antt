@@ -12,7 +12,8 @@ use lib.Dec.{ltb}
 use lib.ListN.{length, take, drop, set, get_or, replicate, length-append, length-drop, length-set}
 use lib.Seq.{sets, sets-eq, set_out, take-suc, take_all, length-take-le}
 use Rattle.config.specs.Config.{class_number}
-use Rattle.config.specs.Refusal.{kind_unknown}
+use Rattle.config.specs.Refusal.{number_of}
+use Rattle.config.specs.declared.refusal.Refusal.TheVariants.{KindUnknown}
 use Rattle.config.specs.declared.config.Priority.TheVariants.{P0, P1}
 use Rattle.control.specs.BudgetAllocator.{no_writer, row_at, writer_of, one}
 use Rattle.control.specs.declared.budget_allocator.WriterInfo.{WriterInfo}
@@ -232,10 +233,10 @@ short index answer fields =
     rw line_length (omega (arith, digits_most 20 index, digits_most 20 answer, fields-length fields))
 
 -- the line of a missing end, which has number 5 and no fields, at most 23
-pub short-end : (index : ℕ) → length (line_text index kind_unknown (fields_text Nothing)) ≤ 23
+pub short-end : (index : ℕ) → length (line_text index (number_of KindUnknown) (fields_text Nothing)) ≤ 23
 unfolding fields_text
 short-end index =
-    rw line_length (omega (arith, digits_most 20 index, digits_few 20 1 kind_unknown (omega arith) (omega arith)))
+    rw line_length (omega (arith, digits_most 20 index, digits_few 20 1 (number_of KindUnknown) (omega arith) (omega arith)))
 
 -- an id of at most 8 digits, and budgets of at most 10
 abbrev pub IsNarrow : WriterInfo → Type 0

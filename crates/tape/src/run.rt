@@ -128,6 +128,7 @@ fn flag_number(answer: Result<bool, Refusal>) -> u8
 }
 
 // The flag; words turned down have no fields.
+#[tactic(auto, unfolding(crate::specs::Run::fields_by))]
 fn flag_fields(answer: Result<bool, Refusal>) -> Fields
     ensures { result ≡ fields_by Flag answer }
 {
@@ -138,6 +139,7 @@ fn flag_fields(answer: Result<bool, Refusal>) -> Fields
 }
 
 // A tick that leaves the rate tells so.
+#[tactic(auto, unfolding(crate::specs::Run::fields_by))]
 fn unchanged_fields(answer: Result<bool, Refusal>) -> Fields
     ensures { result ≡ fields_by (λ changed. Unchanged) answer }
 {
@@ -148,6 +150,7 @@ fn unchanged_fields(answer: Result<bool, Refusal>) -> Fields
 }
 
 // What a send attempt comes to, where it is not turned down.
+#[tactic(auto, unfolding(crate::specs::Run::fields_by))]
 fn attempt_fields(answer: Result<SendAction, Refusal>) -> Fields
     ensures { result ≡ fields_by action_fields answer }
 {

@@ -10,12 +10,12 @@ loop-k-init c = (omega arith, put-nothing _ _)
 
 pub loop-k-preserved : goal.loop-k-preserved
 loop-k-preserved c = let l = c.loop-k in
-    let m = c.min_u64-count in
+    let m = c.min-count in
     (omega arith, join-row _ _ _ l.k (omega (arith, m.ensures)) l.invariant.1 (c.put_update-next.ensures.lines_after, c.put_update-next.ensures.value))
 
 pub returns-clause-lines_after : goal.returns-clause-lines_after
 returns-clause-lines_after c = let l = c.loop-k in
-    let m = c.min_u64-count in
+    let m = c.min-count in
     let rows = c.rows-rows in
     let all : l.k ≡ m.result = omega arith in
     rw (m.ensures, c.count.ensures, rows.ensures)
@@ -23,7 +23,7 @@ returns-clause-lines_after c = let l = c.loop-k in
 
 pub returns-clause-value : goal.returns-clause-value
 returns-clause-value c = let l = c.loop-k in
-    let m = c.min_u64-count in
+    let m = c.min-count in
     let rows = c.rows-rows in
     let all : l.k ≡ m.result = omega arith in
     rw (m.ensures, c.count.ensures, rows.ensures)
