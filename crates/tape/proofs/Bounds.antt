@@ -6,7 +6,7 @@ use mathlib.Core.Path.{◌≡◌, refl, ap}
 use Rattle.std.proofs.Common.{Bool, true, false, Result, Ok, Err}
 use native.Mathlib.Omega.{arith}
 use borrow.Author.Tests.{leb-false}
-use lib.Dec.{ltb, eqb}
+use lib.Dec.{ltb}
 use lib.Ieee.{Float, binary32, of_bits, of_int, mul, div}
 use lib.Ieee.Casts.{to_unsigned-lt}
 use lib.IntN.{pos}

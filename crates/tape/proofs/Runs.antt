@@ -1,6 +1,6 @@
 -- One item of a run at a time: its line, and the run's end from the next item on. Assumes nothing.
 use Prim.Native.Nat.{ℕ, ◌+◌, ◌-◌, ◌*◌, ◌/◌, ◌<◌, ◌≤◌, min, max}
-use mathlib.Core.Bool.{Bool, true, false, cond, false≢true, ◌||◌}
+use mathlib.Core.Bool.{Bool, true, false, false≢true, ◌||◌}
 use mathlib.Core.List.{List, [], ◌∷◌, ◌++◌, append_assoc, append-nil}
 use mathlib.Core.Logic.{inl, inr}
 use mathlib.Core.Path.{◌≡◌, refl, ap, ap₂, sym, subst, ◌∙◌}
@@ -12,7 +12,7 @@ use borrow.Author.Tests.{le-leb, le-ltb, lt-ltb, ltb-false}
 use lib.Dec.{ltb, eqb}
 use lib.Ieee.{Float, binary32, of_bits}
 use lib.ListN.{length, drop, replicate, length-append, get_or}
-use Rattle.config.specs.Ledger.{opened, moved, timed_checks, rate_checks}
+use Rattle.config.specs.Ledger.{opened, moved}
 use Rattle.config.specs.Refusal.{accepted, verdict_of, none_number, result_number}
 use Rattle.config.specs.declared.alone.Left.{Left}
 use Rattle.config.specs.declared.config.CongestionConfig.{CongestionConfig}
@@ -22,7 +22,6 @@ use Rattle.config.specs.declared.refusal.Refusal.{Refusal}
 use Rattle.pacing.specs.Ring.{fate_number}
 use Rattle.pacing.specs.WriterPacer as pacer
 use Rattle.pacing.specs.declared.ring.Fate.{Fate}
-use Rattle.pacing.specs.declared.writer_pacer.SendAction.{SendAction}
 use Rattle.pacing.specs.declared.coalescing.InstanceKey.{InstanceKey}
 use Rattle.pacing.specs.declared.writer_pacer.Handed.{Handed}
 use Rattle.pacing.specs.declared.writer_pacer.PacerConfig.{PacerConfig}
@@ -33,11 +32,11 @@ use Rattle.signals.specs.RttEstimator.{any_inflated, new_tracker, seat_of, row_a
 use Rattle.signals.specs.declared.rtt_estimator.PeerRow.{PeerRow}
 use Rattle.signals.specs.declared.rtt_estimator.PeerRttTracker.{PeerRttTracker}
 use Rattle.control.specs.BudgetAllocator.{writers_of, new_allocator}
-use Rattle.control.specs.Controller.{core_ticked, core_set, new_core, new_controller}
+use Rattle.control.specs.Controller.{new_core, new_controller}
 use Rattle.control.specs.declared.controller.ControllerConfig.{ControllerConfig}
 use Rattle.control.specs.declared.controller.ControllerCore.{ControllerCore}
 use Rattle.control.specs.declared.budget_allocator.BudgetAllocator.{BudgetAllocator}
-use Rattle.station.specs.Parts.{hand_in_checks_on, send_checks_on, core_left, called_core, rated_core, core_left_by, eagain_core, nacks_core, tos_core, ticked_core, shared_by, registered_parts, sampled_tracker, sampled_row}
+use Rattle.station.specs.Parts.{hand_in_checks_on, send_checks_on, core_left, rated_core, core_left_by, eagain_core, nacks_core, tos_core, ticked_core, shared_by, registered_parts, sampled_tracker, sampled_row}
 use Rattle.station.specs.Station.{station_config_of, new_roster, writer_at, with_pacer, rtt_station, rated_station}
 use Rattle.station.specs.declared.parts.CoreLeft.{CoreLeft}
 use Rattle.station.specs.declared.roster.Roster.{Roster}
