@@ -1,76 +1,116 @@
 // The token bucket.
-use crate::line::Line;
-use crate::words::{Record, low_u32};
-use pacing::token_bucket::{TokenBucketAlone, TokenBucketLeft, TokenBucketTold, TokenBucketTried};
+use crate::desk::Desk;
+use crate::line::{Line, Shown};
+use crate::operation::{Operation, made_or_zero, remade, taken};
+use crate::words::{Record, Unknown};
+use config::alone::Alone;
+use config::refusal::Refusal;
+use pacing::token_bucket::TokenBucket;
+use pacing::token_bucket_alone;
 
-const BUCKET_NEW: u64 = 96;
-
-const REFILL: u64 = 97;
-
-const TRY_CONSUME: u64 = 98;
-
-const FORCE_CONSUME: u64 = 99;
-
-const SET_RATE: u64 = 100;
-
-const SET_CAPACITY: u64 = 101;
-
-const TIME_UNTIL_AVAILABLE: u64 = 102;
-
-const BUCKET_CALLS: u64 = 103;
-
-// The bucket that an operation leaves, and its line.
 #[derive(Clone, Copy)]
-pub(crate) struct BucketPlayed {
-    pub(crate) alone: TokenBucketAlone,
-    pub(crate) line: Line,
+pub(crate) enum BucketOperation {
+    New { time: u64, rate: u32, capacity: u64 },
+    Refill { time: u64 },
+    TryConsume { time: u64, bytes: u64 },
+    ForceConsume { time: u64, bytes: u64 },
+    SetRate { time: u64, rate: u32 },
+    SetCapacity { capacity: u64 },
+    TimeUntilAvailable { time: u64, bytes: u64 },
+    Calls(u64),
 }
 
-pub(crate) fn play(alone: TokenBucketAlone, r: Record) -> BucketPlayed {
-    let operation = r.operation;
-    let line = Line::new(operation);
-    match operation {
-        BUCKET_NEW => left(line, TokenBucketAlone::new(r.a, low_u32(r.b), r.c)),
-        REFILL => left(line, alone.refill(r.a)),
-        TRY_CONSUME => tried(line, alone.try_consume(r.a, r.b)),
-        FORCE_CONSUME => left(line, alone.force_consume(r.a, r.b)),
-        SET_RATE => left(line, alone.set_rate(r.a, low_u32(r.b))),
-        SET_CAPACITY => left(line, alone.set_capacity(r.a)),
-        TIME_UNTIL_AVAILABLE => told(line, alone.time_until_available(r.a, r.b)),
-        BUCKET_CALLS => shown(line, 0, 0, alone.resumed(r.a)),
-        _ => BucketPlayed { alone, line },
+impl TryFrom<Record> for BucketOperation {
+    type Error = Unknown;
+
+    fn try_from(r: Record) -> Result<Self, Unknown> {
+        let time = r.a.into();
+        let bytes = r.b.into();
+        let rate = r.b.into();
+        Ok(match r.operation {
+            96 => Self::New {
+                time,
+                rate,
+                capacity: r.c.into(),
+            },
+            97 => Self::Refill { time },
+            98 => Self::TryConsume { time, bytes },
+            99 => Self::ForceConsume { time, bytes },
+            100 => Self::SetRate { time, rate },
+            101 => Self::SetCapacity {
+                capacity: r.a.into(),
+            },
+            102 => Self::TimeUntilAvailable { time, bytes },
+            103 => Self::Calls(r.a.into()),
+            _ => return Err(Unknown),
+        })
     }
 }
 
-fn left(line: Line, call: TokenBucketLeft) -> BucketPlayed {
-    let alone = call.alone;
-    shown(line, call.answer, 0, alone)
+// A full bucket, whatever its rate and capacity.
+pub(crate) fn full(time: u64, rate: u32, capacity: u64) -> Alone<TokenBucket> {
+    Alone::new(time, TokenBucket::new(time, rate, capacity))
 }
 
-fn tried(line: Line, call: TokenBucketTried) -> BucketPlayed {
-    let alone = call.alone;
-    shown(line, call.answer, call.taken as u64, alone)
+impl Operation for BucketOperation {
+    type State = Alone<TokenBucket>;
+
+    fn play(
+        self,
+        alone: &mut Alone<TokenBucket>,
+        _desk: &mut Desk,
+        line: Line,
+    ) -> Result<Line, Refusal> {
+        let answer = self.called(alone);
+        Ok(line.with(answer).with(alone.inner).with(alone.ledger))
+    }
 }
 
-fn told(line: Line, call: TokenBucketTold) -> BucketPlayed {
-    let alone = call.alone;
-    shown(line, call.answer, call.wait, alone)
+impl BucketOperation {
+    // What the call gives: whether tokens were taken, the nanoseconds to wait, or 0.
+    fn called(self, alone: &mut Alone<TokenBucket>) -> Result<u64, Refusal> {
+        match self {
+            Self::New {
+                time,
+                rate,
+                capacity,
+            } => {
+                let made = token_bucket_alone::new(time, rate, capacity);
+                made_or_zero(made, full(0, 0, 0), alone)
+            }
+            Self::Refill { time } => {
+                taken(token_bucket_alone::refill(*alone, time), alone).and(Ok(0))
+            }
+            Self::TryConsume { time, bytes } => {
+                taken(token_bucket_alone::try_consume(*alone, time, bytes), alone).map(u64::from)
+            }
+            Self::ForceConsume { time, bytes } => {
+                taken(
+                    token_bucket_alone::force_consume(*alone, time, bytes),
+                    alone,
+                )
+                .and(Ok(0))
+            }
+            Self::SetRate { time, rate } => {
+                taken(token_bucket_alone::set_rate(*alone, time, rate), alone).and(Ok(0))
+            }
+            Self::SetCapacity { capacity } => {
+                taken(token_bucket_alone::set_capacity(*alone, capacity), alone).and(Ok(0))
+            }
+            Self::TimeUntilAvailable { time, bytes } => taken(
+                token_bucket_alone::time_until_available(*alone, time, bytes),
+                alone,
+            ),
+            Self::Calls(calls) => remade(alone.resumed(calls), alone),
+        }
+    }
 }
 
-// The bucket, and its line with a call's answer and result.
-fn shown(line: Line, answer: u8, number: u64, alone: TokenBucketAlone) -> BucketPlayed {
-    let bucket = alone.bucket();
-    let ledger = alone.ledger();
-    BucketPlayed {
-        alone,
-        line: line
-            .with_u8(answer)
-            .with(number)
-            .with(bucket.tokens())
-            .with(bucket.capacity())
-            .with_u32(bucket.rate())
-            .with(bucket.last_refill())
-            .with(ledger.calls())
-            .with(ledger.last()),
+impl Shown for TokenBucket {
+    fn show(self, line: Line) -> Line {
+        line.with(self.tokens())
+            .with(self.capacity())
+            .with(self.rate())
+            .with(self.last_refill())
     }
 }

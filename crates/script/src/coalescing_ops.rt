@@ -1,213 +1,131 @@
-// The key hash and instance keys, over a buffer of bytes; and that buffer and the pool, which the queue and the pacer share.
-use crate::line::Line;
-use crate::words::{Record, low_u8};
+// The key hash and instance keys, over the byte buffer; and that buffer and the pool, which the queue and the pacer share.
+use crate::desk::{BUFFER_BYTES, Desk, POOL_BYTES};
+use crate::line::{Line, Shown};
+use crate::operation::Operation;
+use crate::words::{Record, Unknown};
+use arrayvec::ArrayVec;
+use config::refusal::Refusal;
 use pacing::coalescing::{InstanceKey, hash_bytes};
 
-const BYTES_EMPTY: u64 = 112;
+// The most bytes that one record brings.
+const MOST_JOINED: usize = 32;
 
-const BYTES_JOIN: u64 = 113;
-
-const HASH_BYTES: u64 = 114;
-
-const FROM_TOPIC_AND_KEY: u64 = 115;
-
-const KEYLESS: u64 = 116;
-
-const KEY_NEW: u64 = 117;
-
-const HASH_IS: u64 = 118;
-
-const BYTES_PATTERN: u64 = 119;
-
-const POOL_FILL: u64 = 120;
-
-const POOL_SHOW: u64 = 121;
-
-const POOL_LEND: u64 = 122;
-
-// The most bytes that the buffer holds, and that one record brings.
-pub(crate) const BUFFER_BYTES: usize = 4096;
-
-const MOST_JOINED: u64 = 32;
-
-// The bytes of the pool: 768 slots of 1,472.
-pub(crate) const POOL_BYTES: usize = 1130496;
-
-// How many bytes of the buffer are used, and how many of the pool are lent.
 #[derive(Clone, Copy)]
-pub(crate) struct Spans {
-    pub(crate) used: usize,
-    pub(crate) lent: usize,
+pub(crate) enum CoalescingOperation {
+    Empty,
+    // The first bytes of words join the buffer.
+    Join { length: usize, words: [u64; 4] },
+    HashBytes,
+    FromTopicAndKey { topic: usize },
+    Keyless,
+    KeyNew(InstanceKey),
+    HashIs(u64),
+    Pattern { length: usize, seed: u64 },
+    PoolFill { lent: usize, byte: u8 },
+    PoolShow,
+    PoolLend { lent: usize },
 }
 
-// The spans that an operation leaves, and its line.
-#[derive(Clone, Copy)]
-pub(crate) struct BytesPlayed {
-    pub(crate) spans: Spans,
-    pub(crate) line: Line,
-}
+impl TryFrom<Record> for CoalescingOperation {
+    type Error = Unknown;
 
-pub(crate) fn play(
-    bytes: &mut [u8; BUFFER_BYTES],
-    pool: &mut [u8; POOL_BYTES],
-    spans: Spans,
-    r: Record,
-) -> BytesPlayed {
-    let operation = r.operation;
-    let line = Line::new(operation);
-    match operation {
-        BYTES_EMPTY => used(line, spans, 0),
-        BYTES_JOIN => used(line, spans, join(bytes, spans.used, r)),
-        BYTES_PATTERN => used(line, spans, pattern(bytes, held(r.a, BUFFER_BYTES), r.b)),
-        POOL_FILL => {
-            fill(pool, low_u8(r.b));
-            lent(line, spans, held(r.a, POOL_BYTES))
-        }
-        POOL_LEND => lent(line, spans, held(r.a, POOL_BYTES)),
-        POOL_SHOW => BytesPlayed {
-            spans,
-            line: line.with_usize(spans.lent).with(hash(pool, spans.lent)),
-        },
-        _ => BytesPlayed {
-            spans,
-            line: hashed(line, bytes, spans.used, r),
-        },
+    fn try_from(r: Record) -> Result<Self, Unknown> {
+        let length = usize::from(r.a);
+        let lent = length.min(POOL_BYTES);
+        Ok(match r.operation {
+            112 => Self::Empty,
+            113 => Self::Join {
+                length: length.min(MOST_JOINED),
+                words: [r.b.0, r.c.0, r.d.0, r.e.0],
+            },
+            114 => Self::HashBytes,
+            115 => Self::FromTopicAndKey { topic: length },
+            116 => Self::Keyless,
+            117 => Self::KeyNew(InstanceKey::new(r.a.0, r.b.0)),
+            118 => Self::HashIs(r.a.0),
+            119 => Self::Pattern {
+                length: length.min(BUFFER_BYTES),
+                seed: r.b.0,
+            },
+            120 => Self::PoolFill {
+                lent,
+                byte: r.b.into(),
+            },
+            121 => Self::PoolShow,
+            122 => Self::PoolLend { lent },
+            _ => return Err(Unknown),
+        })
     }
 }
 
-// An argument, or the most.
-fn held(word: u64, most: usize) -> usize {
-    let length = word as usize;
-    if length < most { length } else { most }
-}
+impl Operation for CoalescingOperation {
+    type State = ();
 
-fn used(line: Line, spans: Spans, length: usize) -> BytesPlayed {
-    BytesPlayed {
-        spans: Spans {
-            used: length,
-            lent: spans.lent,
-        },
-        line: line.with_usize(length),
+    fn play(self, _state: &mut (), desk: &mut Desk, line: Line) -> Result<Line, Refusal> {
+        Ok(match self {
+            Self::Empty => {
+                desk.bytes.clear();
+                line.with(0u64)
+            }
+            Self::Join { length, words } => {
+                join(&mut desk.bytes, length, words);
+                line.with(desk.bytes.len())
+            }
+            Self::Pattern { length, seed } => {
+                desk.bytes.clear();
+                pattern(&mut desk.bytes, length, seed);
+                line.with(desk.bytes.len())
+            }
+            Self::PoolFill { lent, byte } => {
+                desk.pool.fill(byte);
+                desk.lent = lent;
+                line.with(lent)
+            }
+            Self::PoolLend { lent } => {
+                desk.lent = lent;
+                line.with(lent)
+            }
+            Self::PoolShow => line.with(desk.lent).with(hash_bytes(desk.lent_part())),
+            Self::HashBytes => line.with(hash_bytes(desk.bytes.as_slice())),
+            Self::FromTopicAndKey { topic } => {
+                line.with(topic_and_key(desk.bytes.as_slice(), topic))
+            }
+            Self::Keyless => line.with(InstanceKey::keyless(desk.bytes.as_slice())),
+            Self::KeyNew(key) => line.with(key),
+            Self::HashIs(hash) => line.with(hash_bytes(desk.bytes.as_slice()) == hash),
+        })
     }
 }
 
-fn lent(line: Line, spans: Spans, length: usize) -> BytesPlayed {
-    BytesPlayed {
-        spans: Spans {
-            used: spans.used,
-            lent: length,
-        },
-        line: line.with_usize(length),
+impl Shown for InstanceKey {
+    fn show(self, line: Line) -> Line {
+        line.with(self.topic_hash).with(self.key_hash)
     }
 }
 
-// The buffer becomes so many bytes of a pattern, as far as it goes; answers how many it then has.
-fn pattern(bytes: &mut [u8; BUFFER_BYTES], length: usize, seed: u64) -> usize {
-    let mut n: usize = 0;
-    let mut k: usize = 0;
-    while k < length {
-        n = push(bytes, n, pattern_byte(seed, k));
-        k += 1;
+// The topic is the buffer's first bytes, or all; the key is the rest.
+fn topic_and_key(bytes: &[u8], topic: usize) -> InstanceKey {
+    let (topic, key) = bytes.split_at(topic.min(bytes.len()));
+    InstanceKey::from_topic_and_key(topic, key)
+}
+
+// The first bytes of words, low bytes first, join the buffer as far as it goes.
+fn join(bytes: &mut ArrayVec<u8, BUFFER_BYTES>, length: usize, words: [u64; 4]) {
+    let joining = words.iter().flat_map(|word| word.to_le_bytes());
+    for byte in joining.take(length) {
+        let _ = bytes.try_push(byte);
     }
-    n
+}
+
+// So many bytes of a pattern join the buffer as far as it goes.
+fn pattern(bytes: &mut ArrayVec<u8, BUFFER_BYTES>, length: usize, seed: u64) {
+    for k in 0..length {
+        let _ = bytes.try_push(pattern_byte(seed, k));
+    }
 }
 
 // A byte of a pattern, the index modulo the buffer's size.
 fn pattern_byte(seed: u64, k: usize) -> u8 {
     let at = (k % BUFFER_BYTES) as u64;
-    low_u8((seed % 65536 + at) * 40503 / 256)
-}
-
-// Every byte of the pool becomes this one.
-fn fill(pool: &mut [u8; POOL_BYTES], byte: u8) {
-    let mut k: usize = 0;
-    while k < POOL_BYTES {
-        pool[k] = byte;
-        k += 1;
-    }
-}
-
-// The line of an operation that changes nothing.
-fn hashed(line: Line, bytes: &[u8], length: usize, r: Record) -> Line {
-    let operation = r.operation;
-    match operation {
-        HASH_BYTES => line.with(hash(bytes, length)),
-        FROM_TOPIC_AND_KEY => with_key(line, topic_and_key(bytes, length, r.a)),
-        KEYLESS => with_key(line, keyless(bytes, length)),
-        KEY_NEW => with_key(line, InstanceKey::new(r.a, r.b)),
-        HASH_IS => line.with_flag(hash(bytes, length) == r.a),
-        _ => line,
-    }
-}
-
-fn with_key(line: Line, key: InstanceKey) -> Line {
-    line.with(key.topic_hash).with(key.key_hash)
-}
-
-fn hash(bytes: &[u8], length: usize) -> u64 {
-    if length <= bytes.len() {
-        hash_bytes(&bytes[0..length])
-    } else {
-        0
-    }
-}
-
-fn keyless(bytes: &[u8], length: usize) -> InstanceKey {
-    if length <= bytes.len() {
-        InstanceKey::keyless(&bytes[0..length])
-    } else {
-        InstanceKey::new(0, 0)
-    }
-}
-
-// The topic is the buffer's first bytes, or all; the key is the rest.
-fn topic_and_key(bytes: &[u8], length: usize, topic: u64) -> InstanceKey {
-    if bytes.len() < length {
-        return InstanceKey::new(0, 0);
-    }
-    let cut = topic as usize;
-    if cut < length {
-        InstanceKey::from_topic_and_key(&bytes[0..cut], &bytes[cut..length])
-    } else {
-        InstanceKey::from_topic_and_key(&bytes[0..length], &bytes[length..length])
-    }
-}
-
-// The first bytes of a record's last four words join the buffer as far as it goes; answers how many it then has.
-fn join(bytes: &mut [u8; BUFFER_BYTES], length: usize, r: Record) -> usize {
-    let mut n = length;
-    let mut k: u64 = 0;
-    while k < MOST_JOINED {
-        if k < r.a {
-            n = push(bytes, n, byte_of(r, k));
-        }
-        k += 1;
-    }
-    n
-}
-
-fn push(bytes: &mut [u8; BUFFER_BYTES], length: usize, byte: u8) -> usize {
-    if length < BUFFER_BYTES {
-        bytes[length] = byte;
-        return length + 1;
-    }
-    length
-}
-
-// A byte of a record's last four words, low bytes first.
-fn byte_of(r: Record, k: u64) -> u8 {
-    if k < 8 {
-        byte_at(r.b, k)
-    } else if k < 16 {
-        byte_at(r.c, k)
-    } else if k < 24 {
-        byte_at(r.d, k)
-    } else {
-        byte_at(r.e, k)
-    }
-}
-
-// A byte of a word, the index modulo 8.
-fn byte_at(word: u64, k: u64) -> u8 {
-    low_u8(word >> (k % 8 * 8))
+    ((seed % 65536 + at) * 40503 / 256 % 256) as u8
 }

@@ -1,186 +1,140 @@
 // The settings and their checks.
-use crate::line::Line;
-use crate::words::{Record, f32_of, flag, low_u8, low_u32};
+use crate::desk::Desk;
+use crate::line::{Line, Shown};
+use crate::operation::Operation;
+use crate::words::{Record, Unknown, Word};
 use config::config::{CongestionConfig, EcnMode};
+use config::refusal::Refusal;
 
-const CONFIG_NEW: u64 = 32;
-
-const CONFIG_SET: u64 = 33;
-
-const CONFIG_CHECK: u64 = 34;
-
+// Fields of the settings.
 const FIELDS: u64 = 25;
 
-// The settings that an operation leaves, and its line.
 #[derive(Clone, Copy)]
-pub(crate) struct ConfigPlayed {
-    pub(crate) config: CongestionConfig,
-    pub(crate) line: Line,
+pub(crate) enum ConfigOperation {
+    New { disabled: bool },
+    // One field, by its number.
+    Set { field: u64, value: Word },
+    Check,
 }
 
-pub(crate) fn play(config: CongestionConfig, r: Record) -> ConfigPlayed {
-    let operation = r.operation;
-    let line = Line::new(operation);
-    match operation {
-        CONFIG_NEW => shown(fresh(r.a), line),
-        CONFIG_SET => shown(with_field(config, r.a % FIELDS, r.b), line),
-        CONFIG_CHECK => {
-            let checked = config.check();
-            shown(config, line.with_u8(checked.answer).with_u8(checked.failed))
+impl TryFrom<Record> for ConfigOperation {
+    type Error = Unknown;
+
+    fn try_from(r: Record) -> Result<Self, Unknown> {
+        Ok(match r.operation {
+            32 => Self::New {
+                disabled: r.a.into(),
+            },
+            33 => Self::Set {
+                field: r.a.0 % FIELDS,
+                value: r.b,
+            },
+            34 => Self::Check,
+            _ => return Err(Unknown),
+        })
+    }
+}
+
+impl Operation for ConfigOperation {
+    type State = ();
+
+    fn play(self, _state: &mut (), desk: &mut Desk, line: Line) -> Result<Line, Refusal> {
+        let line = match self {
+            Self::New { disabled: true } => {
+                desk.settings = CongestionConfig::disabled();
+                line
+            }
+            Self::New { disabled: false } => {
+                desk.settings = CongestionConfig::new();
+                line
+            }
+            Self::Set { field, value } => {
+                set_field(&mut desk.settings, field, value);
+                line
+            }
+            Self::Check => {
+                let failed = desk.settings.validate().map_or_else(u8::from, |()| 0);
+                line.with(desk.settings.check()).with(failed)
+            }
+        };
+        Ok(line.with(desk.settings))
+    }
+}
+
+fn set_field(settings: &mut CongestionConfig, field: u64, value: Word) {
+    match field {
+        0 => settings.enabled = value.into(),
+        1 => settings.min_rate_bps = value.into(),
+        2 => settings.max_rate_bps = value.into(),
+        3 => settings.ai_step_bps = value.into(),
+        4 => settings.md_factor_hard = value.into(),
+        5 => settings.md_factor_soft = value.into(),
+        6 => settings.stable_window_ms = value.into(),
+        7 => settings.cooldown_ms = value.into(),
+        8 => settings.score_tick_ms = value.into(),
+        9 => settings.score_decay = value.into(),
+        10 => settings.decrease_threshold = value.into(),
+        11 => settings.increase_threshold = value.into(),
+        12 => settings.hysteresis_band = value.into(),
+        13 => settings.eagain_is_hard = value.into(),
+        14 => settings.eagain_impulse = value.into(),
+        15 => settings.rtt_impulse = value.into(),
+        16 => settings.nack_rate_threshold = value.into(),
+        17 => settings.nack_impulse = value.into(),
+        18 => settings.repair_budget_ratio = value.into(),
+        19 => settings.max_queue_p0 = value.into(),
+        20 => settings.max_queue_p1 = value.into(),
+        21 => settings.max_queue_p2 = value.into(),
+        22 => settings.p0_min_share = value.into(),
+        23 => settings.p0_min_bps = value.into(),
+        _ => settings.ecn_mode = value.into(),
+    }
+}
+
+// The mode, its digit modulo 3.
+impl From<Word> for EcnMode {
+    fn from(word: Word) -> EcnMode {
+        match word.0 % 3 {
+            0 => EcnMode::Off,
+            1 => EcnMode::Opportunistic,
+            _ => EcnMode::Mandatory,
         }
-        _ => ConfigPlayed { config, line },
     }
 }
 
-// The defaults, or with congestion control off.
-fn fresh(a: u64) -> CongestionConfig {
-    if flag(a) {
-        CongestionConfig::disabled()
-    } else {
-        CongestionConfig::new()
+impl Shown for EcnMode {
+    fn show(self, line: Line) -> Line {
+        line.with(self as u8)
     }
 }
 
-// The settings with one field set, by its number. Each step sets the fields of one type and leaves the others.
-fn with_field(config: CongestionConfig, field: u64, value: u64) -> CongestionConfig {
-    let config = with_flag(config, field, flag(value));
-    let config = with_float(config, field, f32_of(value));
-    let config = with_byte(config, field, low_u8(value));
-    let config = with_number(config, field, low_u32(value));
-    let config = with_limit(config, field, value as usize);
-    with_mode(config, field, value % 3)
-}
-
-fn with_flag(mut config: CongestionConfig, field: u64, value: bool) -> CongestionConfig {
-    match field {
-        0 => config.enabled = value,
-        13 => config.eagain_is_hard = value,
-        _ => {}
+// The fields in the order of their numbers.
+impl Shown for CongestionConfig {
+    fn show(self, line: Line) -> Line {
+        line.with(self.enabled)
+            .with(self.min_rate_bps)
+            .with(self.max_rate_bps)
+            .with(self.ai_step_bps)
+            .with(self.md_factor_hard)
+            .with(self.md_factor_soft)
+            .with(self.stable_window_ms)
+            .with(self.cooldown_ms)
+            .with(self.score_tick_ms)
+            .with(self.score_decay)
+            .with(self.decrease_threshold)
+            .with(self.increase_threshold)
+            .with(self.hysteresis_band)
+            .with(self.eagain_is_hard)
+            .with(self.eagain_impulse)
+            .with(self.rtt_impulse)
+            .with(self.nack_rate_threshold)
+            .with(self.nack_impulse)
+            .with(self.repair_budget_ratio)
+            .with(self.max_queue_p0)
+            .with(self.max_queue_p1)
+            .with(self.max_queue_p2)
+            .with(self.p0_min_share)
+            .with(self.p0_min_bps)
+            .with(self.ecn_mode)
     }
-    config
-}
-
-fn with_float(mut config: CongestionConfig, field: u64, value: f32) -> CongestionConfig {
-    match field {
-        4 => config.md_factor_hard = value,
-        5 => config.md_factor_soft = value,
-        9 => config.score_decay = value,
-        18 => config.repair_budget_ratio = value,
-        22 => config.p0_min_share = value,
-        _ => {}
-    }
-    config
-}
-
-fn with_byte(mut config: CongestionConfig, field: u64, value: u8) -> CongestionConfig {
-    match field {
-        10 => config.decrease_threshold = value,
-        11 => config.increase_threshold = value,
-        12 => config.hysteresis_band = value,
-        14 => config.eagain_impulse = value,
-        15 => config.rtt_impulse = value,
-        17 => config.nack_impulse = value,
-        _ => {}
-    }
-    config
-}
-
-fn with_number(mut config: CongestionConfig, field: u64, value: u32) -> CongestionConfig {
-    match field {
-        1 => config.min_rate_bps = value,
-        2 => config.max_rate_bps = value,
-        3 => config.ai_step_bps = value,
-        6 => config.stable_window_ms = value,
-        7 => config.cooldown_ms = value,
-        8 => config.score_tick_ms = value,
-        16 => config.nack_rate_threshold = value,
-        23 => config.p0_min_bps = value,
-        _ => {}
-    }
-    config
-}
-
-fn with_limit(mut config: CongestionConfig, field: u64, value: usize) -> CongestionConfig {
-    match field {
-        19 => config.max_queue_p0 = value,
-        20 => config.max_queue_p1 = value,
-        21 => config.max_queue_p2 = value,
-        _ => {}
-    }
-    config
-}
-
-fn with_mode(config: CongestionConfig, field: u64, number: u64) -> CongestionConfig {
-    if field == 24 {
-        CongestionConfig {
-            ecn_mode: mode_of(number),
-            ..config
-        }
-    } else {
-        config
-    }
-}
-
-fn mode_of(number: u64) -> EcnMode {
-    match number {
-        0 => EcnMode::Off,
-        1 => EcnMode::Opportunistic,
-        _ => EcnMode::Mandatory,
-    }
-}
-
-fn number_of(mode: EcnMode) -> u64 {
-    match mode {
-        EcnMode::Off => 0,
-        EcnMode::Opportunistic => 1,
-        EcnMode::Mandatory => 2,
-    }
-}
-
-// The settings, and a line with their fields.
-fn shown(config: CongestionConfig, line: Line) -> ConfigPlayed {
-    let mode = config.ecn_mode;
-    let rates = with_rates(line, config);
-    let signals = with_signals(rates, config);
-    let limits = with_limits(signals, config);
-    ConfigPlayed {
-        config,
-        line: limits.with(number_of(mode)),
-    }
-}
-
-// Fields 0 to 9.
-fn with_rates(line: Line, config: CongestionConfig) -> Line {
-    line.with_flag(config.enabled)
-        .with_u32(config.min_rate_bps)
-        .with_u32(config.max_rate_bps)
-        .with_u32(config.ai_step_bps)
-        .with_f32(config.md_factor_hard)
-        .with_f32(config.md_factor_soft)
-        .with_u32(config.stable_window_ms)
-        .with_u32(config.cooldown_ms)
-        .with_u32(config.score_tick_ms)
-        .with_f32(config.score_decay)
-}
-
-// Fields 10 to 18.
-fn with_signals(line: Line, config: CongestionConfig) -> Line {
-    line.with_u8(config.decrease_threshold)
-        .with_u8(config.increase_threshold)
-        .with_u8(config.hysteresis_band)
-        .with_flag(config.eagain_is_hard)
-        .with_u8(config.eagain_impulse)
-        .with_u8(config.rtt_impulse)
-        .with_u32(config.nack_rate_threshold)
-        .with_u8(config.nack_impulse)
-        .with_f32(config.repair_budget_ratio)
-}
-
-// Fields 19 to 23.
-fn with_limits(line: Line, config: CongestionConfig) -> Line {
-    line.with_usize(config.max_queue_p0)
-        .with_usize(config.max_queue_p1)
-        .with_usize(config.max_queue_p2)
-        .with_f32(config.p0_min_share)
-        .with_u32(config.p0_min_bps)
 }

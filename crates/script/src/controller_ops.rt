@@ -1,168 +1,150 @@
 // The congestion controller, over the settings.
+use crate::allocator_ops::{updates_if, writers};
+use crate::desk::Desk;
 use crate::digest::DIGEST_START;
-use crate::ecn_ops::with_processor;
-use crate::line::Line;
-use crate::rate_ops::with_changes;
-use crate::scorer_ops::{with_score, with_scorer};
-use crate::words::{Record, class_of, f32_of, low_u8, low_u32};
-use crate::{allocator_ops, peers_ops};
-use config::config::CongestionConfig;
+use crate::line::{Line, Shown};
+use crate::operation::Operation;
+use crate::outcome::Outcome;
+use crate::peers_ops;
+use crate::scorer_ops::with_score;
+use crate::words::{Record, Unknown};
+use config::config::{CongestionConfig, Priority};
+use config::refusal::Refusal;
 use control::controller::{
-    CongestionController, CongestionControllerAlone, ControllerAnswer, ControllerCore,
+    CongestionController, CongestionControllerAlone, ControllerCore, NackWindow,
 };
+use control::metrics::CongestionMetrics;
 
-const CONTROLLER_NEW: u64 = 208;
-
-const REGISTER_WRITER: u64 = 209;
-
-const CONTROLLER_TICK: u64 = 210;
-
-const CONTROLLER_ON_EAGAIN: u64 = 211;
-
-const ON_RTT_SAMPLE: u64 = 212;
-
-const ON_NACKS: u64 = 213;
-
-const ON_ECN_TOS: u64 = 214;
-
-const ON_ECN_CE: u64 = 215;
-
-const CONTROLLER_SET_RATE: u64 = 216;
-
-const CONTROLLER_CALLS: u64 = 217;
-
-// Fields of a line between the answer and the digests.
-const FIELDS: usize = 54;
-
-// The controller that an operation leaves, and its line.
 #[derive(Clone, Copy)]
-pub(crate) struct ControllerPlayed {
-    pub(crate) alone: CongestionControllerAlone,
-    pub(crate) line: Line,
+pub(crate) enum ControllerOperation {
+    New { time: u64 },
+    RegisterWriter { id: u64, class: Priority },
+    Tick { time: u64 },
+    OnEagain,
+    OnRttSample { time: u64, peer: u32, sample: f32 },
+    OnNacks(u32),
+    OnEcnTos(u8),
+    OnEcnCe,
+    SetRate { time: u64, rate: u32 },
+    Calls(u64),
+}
+
+impl TryFrom<Record> for ControllerOperation {
+    type Error = Unknown;
+
+    fn try_from(r: Record) -> Result<Self, Unknown> {
+        let time = r.a.into();
+        Ok(match r.operation {
+            208 => Self::New { time },
+            209 => Self::RegisterWriter {
+                id: r.a.into(),
+                class: r.b.into(),
+            },
+            210 => Self::Tick { time },
+            211 => Self::OnEagain,
+            212 => Self::OnRttSample {
+                time,
+                peer: r.b.into(),
+                sample: r.c.into(),
+            },
+            213 => Self::OnNacks(r.a.into()),
+            214 => Self::OnEcnTos(r.a.into()),
+            215 => Self::OnEcnCe,
+            216 => Self::SetRate {
+                time,
+                rate: r.b.into(),
+            },
+            217 => Self::Calls(r.a.into()),
+            _ => return Err(Unknown),
+        })
+    }
 }
 
 // Before the first record.
-pub(crate) fn first() -> CongestionControllerAlone {
-    let made = CongestionControllerAlone::new(CongestionConfig::new(), 0);
-    made.alone
+pub(crate) fn first() -> Result<CongestionControllerAlone, Refusal> {
+    CongestionControllerAlone::new(CongestionConfig::new(), 0)
 }
 
-pub(crate) fn play(
-    alone: CongestionControllerAlone,
-    config: CongestionConfig,
-    r: Record,
-) -> ControllerPlayed {
-    let operation = r.operation;
-    let line = Line::new(operation);
-    match operation {
-        CONTROLLER_NEW => made(line, alone, CongestionControllerAlone::new(config, r.a)),
-        REGISTER_WRITER => answered(line, alone.register_writer(r.a, class_of(r.b))),
-        CONTROLLER_TICK => updated(line, alone.tick(r.a)),
-        CONTROLLER_ON_EAGAIN => answered(line, alone.on_eagain()),
-        ON_RTT_SAMPLE => answered(line, alone.on_rtt_sample(r.a, low_u32(r.b), f32_of(r.c))),
-        ON_NACKS => answered(line, alone.on_nacks(low_u32(r.a))),
-        ON_ECN_TOS => answered(line, alone.on_ecn_tos(low_u8(r.a))),
-        ON_ECN_CE => answered(line, alone.on_ecn_ce()),
-        CONTROLLER_SET_RATE => updated(line, alone.set_rate(r.a, low_u32(r.b))),
-        CONTROLLER_CALLS => shown(line, 0, false, DIGEST_START, alone.resumed(r.a)),
-        _ => ControllerPlayed { alone, line },
+impl Operation for ControllerOperation {
+    type State = CongestionControllerAlone;
+
+    fn play(
+        self,
+        alone: &mut CongestionControllerAlone,
+        desk: &mut Desk,
+        line: Line,
+    ) -> Result<Line, Refusal> {
+        let outcome = match self {
+            Self::New { time } => {
+                Outcome::remade(CongestionControllerAlone::new(desk.settings, time)?, alone)
+            }
+            Self::RegisterWriter { id, class } => {
+                Outcome::left(alone.register_writer(id, class), alone)
+            }
+            Self::Tick { time } => Outcome::shared_out(alone.tick(time), alone),
+            Self::OnEagain => Outcome::left(alone.on_eagain(), alone),
+            Self::OnRttSample { time, peer, sample } => {
+                Outcome::left(alone.on_rtt_sample(time, peer, sample), alone)
+            }
+            Self::OnNacks(count) => Outcome::left(alone.on_nacks(count), alone),
+            Self::OnEcnTos(tos) => Outcome::told(alone.on_ecn_tos(tos), alone),
+            Self::OnEcnCe => Outcome::left(alone.on_ecn_ce(), alone),
+            Self::SetRate { time, rate } => Outcome::shared_out(alone.set_rate(time, rate), alone),
+            Self::Calls(calls) => Outcome::remade(alone.resumed(calls), alone),
+        };
+        Ok(with_alone(line.with(outcome), *alone, outcome.updated))
+    }
+
+    fn nothing(line: Line) -> Line {
+        line.with_zeros(54)
+            .with(DIGEST_START)
+            .with(DIGEST_START)
+            .with(DIGEST_START)
     }
 }
 
-// A controller that was turned down has a scorer that is stable since time 0, so zeros stand in its place; the earlier one is played on.
-fn made(
-    line: Line,
-    earlier: CongestionControllerAlone,
-    call: ControllerAnswer,
-) -> ControllerPlayed {
-    if call.answer == 0 {
-        answered(line, call)
-    } else {
-        ControllerPlayed {
-            alone: earlier,
-            line: line
-                .with_u8(call.answer)
-                .with_zeros(FIELDS)
-                .with(DIGEST_START)
-                .with(DIGEST_START)
-                .with(DIGEST_START),
-        }
-    }
-}
-
-fn answered(line: Line, call: ControllerAnswer) -> ControllerPlayed {
-    let alone = call.alone;
-    shown(line, call.answer, call.told, DIGEST_START, alone)
-}
-
-// The same with the updates, where the call told any.
-fn updated(line: Line, call: ControllerAnswer) -> ControllerPlayed {
-    let alone = call.alone;
+// The controller under its ledger, and the digests of its tables and of the updates.
+fn with_alone(line: Line, alone: CongestionControllerAlone, updated: bool) -> Line {
     let controller = alone.controller();
-    let updates = allocator_ops::updates_if(call.told, controller.allocator());
-    shown(line, call.answer, call.told, updates, alone)
-}
-
-// The controller, and its line with a call's answer, its result and the digest of its updates.
-fn shown(
-    line: Line,
-    answer: u8,
-    told: bool,
-    updates: u64,
-    alone: CongestionControllerAlone,
-) -> ControllerPlayed {
-    let ledger = alone.ledger();
-    let config = alone.config();
-    let controller = alone.controller();
-    let answered = line.with_u8(answer).with_flag(told);
-    let counted = with_controller(answered, config.enabled, controller)
-        .with(ledger.calls())
-        .with(ledger.last());
-    ControllerPlayed {
-        alone,
-        line: with_digests(counted, controller, updates),
-    }
-}
-
-// All but the digests of its tables.
-pub(crate) fn with_controller(line: Line, enabled: bool, controller: CongestionController) -> Line {
-    let cored = with_core(line.with_flag(enabled), controller.core());
-    with_tables(cored, controller)
-}
-
-// All but the tables.
-fn with_core(line: Line, core: ControllerCore) -> Line {
-    let scorer = core.scorer();
-    let scored = with_score(line.with_u32(core.rate()), scorer);
-    let measured = with_window(scored, core);
-    let steered = with_changes(with_scorer(measured, scorer), core.rate_controller());
-    with_processor(steered, core.ecn())
-}
-
-// The last tick, the window of NACKs and the metrics.
-fn with_window(line: Line, core: ControllerCore) -> Line {
-    let nacks = core.nacks();
-    let metrics = core.metrics();
-    line.with(core.last_tick())
-        .with_u32(nacks.count)
-        .with(nacks.start)
-        .with_u32(metrics.current_rate_bps)
-        .with(metrics.eagain_total)
-        .with(metrics.ecn_ce_received)
-}
-
-// The allocator, and of the peers whether one is inflated and how many they are.
-fn with_tables(line: Line, controller: CongestionController) -> Line {
-    let tracker = controller.tracker();
-    allocator_ops::with_allocator(line, controller.allocator())
-        .with_flag(tracker.any_inflated())
-        .with_u16(tracker.peer_count())
-}
-
-// The digests of the writers, of the updates and of the peers.
-fn with_digests(line: Line, controller: CongestionController, updates: u64) -> Line {
-    let allocator = controller.allocator();
-    line.with(allocator_ops::writers(allocator.table()))
-        .with(updates)
+    line.with(alone.config().enabled)
+        .with(controller)
+        .with(alone.ledger())
+        .with(writers(controller.allocator()))
+        .with(updates_if(updated, controller.allocator()))
         .with(peers_ops::digest(controller.tracker()))
+}
+
+// All but whether it is enabled, and the digests of its tables.
+impl Shown for CongestionController {
+    fn show(self, line: Line) -> Line {
+        let tracker = self.tracker();
+        line.with(self.core()).with(self.allocator()).with(tracker)
+    }
+}
+
+impl Shown for ControllerCore {
+    fn show(self, line: Line) -> Line {
+        let scorer = self.scorer();
+        with_score(line.with(self.rate()), scorer)
+            .with(self.last_tick())
+            .with(self.nacks())
+            .with(self.metrics())
+            .with(scorer)
+            .with(self.rate_controller())
+            .with(self.ecn())
+    }
+}
+
+impl Shown for NackWindow {
+    fn show(self, line: Line) -> Line {
+        line.with(self.count).with(self.start)
+    }
+}
+
+impl Shown for CongestionMetrics {
+    fn show(self, line: Line) -> Line {
+        line.with(self.current_rate_bps)
+            .with(self.eagain_total)
+            .with(self.ecn_ce_received)
+    }
 }

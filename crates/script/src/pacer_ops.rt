@@ -1,258 +1,208 @@
 // The writer pacer, over the settings, the byte buffer and the lent part of the pool.
-use crate::coalescing_ops::{BUFFER_BYTES, POOL_BYTES, Spans};
+use crate::desk::{Desk, lent_mut};
 use crate::digest::{DIGEST_START, joined_ring};
-use crate::line::Line;
-use crate::words::{Record, class_of, low_u32};
+use crate::line::{Line, Shown};
+use crate::operation::{Operation, remade, taken};
+use crate::words::{Record, Unknown};
+use config::answer::Numbered;
 use config::config::{CongestionConfig, Priority};
-use config::ledger::Ledger;
+use config::refusal::Refusal;
 use pacing::coalescing::{InstanceKey, hash_bytes};
-use pacing::pool::Limits;
-use pacing::writer_pacer::{
-    PacerCore, SendAction, WriterPacerAlone, WriterPacerLeft, WriterPacerMetrics, WriterPacerSent,
-};
+use pacing::writer_pacer::{PacerCore, SendAction, WriterPacerAlone, WriterPacerMetrics};
 use pacing::{entries, writer_pacer};
 
-const PACER_NEW: u64 = 144;
-
-const ENQUEUE: u64 = 145;
-
-const ENQUEUE_P2_KEYED: u64 = 146;
-
-const TRY_SEND: u64 = 147;
-
-const PACER_SET_RATE: u64 = 148;
-
-const PACER_CALLS: u64 = 149;
-
-// The pacer that an operation leaves, and its line.
 #[derive(Clone, Copy)]
-pub(crate) struct PacerPlayed {
-    pub(crate) alone: WriterPacerAlone,
-    pub(crate) line: Line,
+pub(crate) enum PacerOperation {
+    New { time: u64, rate: u32 },
+    Enqueue { time: u64, class: Priority },
+    EnqueueP2Keyed { time: u64, key: InstanceKey },
+    TrySend { time: u64 },
+    SetRate { time: u64, rate: u32 },
+    Calls(u64),
+}
+
+impl TryFrom<Record> for PacerOperation {
+    type Error = Unknown;
+
+    fn try_from(r: Record) -> Result<Self, Unknown> {
+        let time = r.a.into();
+        let rate = r.b.into();
+        Ok(match r.operation {
+            144 => Self::New { time, rate },
+            145 => Self::Enqueue {
+                time,
+                class: r.b.into(),
+            },
+            146 => Self::EnqueueP2Keyed {
+                time,
+                key: InstanceKey::new(r.b.0, r.c.0),
+            },
+            147 => Self::TrySend { time },
+            148 => Self::SetRate { time, rate },
+            149 => Self::Calls(r.a.into()),
+            _ => return Err(Unknown),
+        })
+    }
+}
+
+// Default settings, but for one record of each class in a queue.
+pub(crate) fn narrow() -> CongestionConfig {
+    CongestionConfig {
+        max_queue_p0: 1,
+        max_queue_p1: 1,
+        max_queue_p2: 1,
+        ..CongestionConfig::new()
+    }
 }
 
 // Before the first record.
-pub(crate) fn first() -> WriterPacerAlone {
-    let mut config = CongestionConfig::new();
-    config.max_queue_p0 = 1;
-    config.max_queue_p1 = 1;
-    config.max_queue_p2 = 1;
-    let made = WriterPacerAlone::with_rate(0, config, 1);
-    made.alone
+pub(crate) fn first() -> Result<WriterPacerAlone, Refusal> {
+    WriterPacerAlone::with_rate(0, narrow(), 1)
 }
 
-pub(crate) fn play(
-    alone: WriterPacerAlone,
-    config: CongestionConfig,
-    bytes: &[u8; BUFFER_BYTES],
-    pool: &mut [u8; POOL_BYTES],
-    spans: Spans,
-    r: Record,
-) -> PacerPlayed {
-    let operation = r.operation;
-    let line = Line::new(operation);
-    match operation {
-        PACER_NEW => made(
-            line,
-            alone,
-            WriterPacerAlone::with_rate(r.a, config, low_u32(r.b)),
-        ),
-        ENQUEUE => left(line, enqueue(alone, pool, bytes, spans, r)),
-        ENQUEUE_P2_KEYED => left(line, enqueue_p2_keyed(alone, pool, bytes, spans, r)),
-        TRY_SEND => try_send(line, alone, pool, spans.lent, r.a),
-        PACER_SET_RATE => left(line, alone.set_rate(r.a, low_u32(r.b))),
-        PACER_CALLS => quiet(line, 0, alone.resumed(r.a)),
-        _ => PacerPlayed { alone, line },
+impl Operation for PacerOperation {
+    type State = WriterPacerAlone;
+
+    fn play(
+        self,
+        alone: &mut WriterPacerAlone,
+        desk: &mut Desk,
+        line: Line,
+    ) -> Result<Line, Refusal> {
+        let mut action = SendAction::Empty;
+        let number = match self {
+            Self::New { time, rate } => {
+                let made = WriterPacerAlone::with_rate(time, desk.settings, rate)?;
+                remade::<_, ()>(made, alone).number()
+            }
+            // The bytes of the buffer go into the lent part of the pool.
+            Self::Enqueue { time, class } => {
+                let pool = lent_mut(&mut desk.pool, desk.lent);
+                taken(
+                    alone.enqueue(time, pool, class, desk.bytes.as_slice()),
+                    alone,
+                )
+                .number()
+            }
+            Self::EnqueueP2Keyed { time, key } => {
+                let pool = lent_mut(&mut desk.pool, desk.lent);
+                taken(
+                    alone.enqueue_p2_keyed(time, pool, key, desk.bytes.as_slice()),
+                    alone,
+                )
+                .number()
+            }
+            Self::TrySend { time } => {
+                let tried = taken(alone.try_send(time, desk.lent_part()), alone);
+                action = tried.unwrap_or(SendAction::Empty);
+                tried.number()
+            }
+            Self::SetRate { time, rate } => taken(alone.set_rate(time, rate), alone).number(),
+            Self::Calls(calls) => remade::<_, ()>(alone.resumed(calls), alone).number(),
+        };
+        let limits = alone.config().limits();
+        let sent = writer_pacer::sent_bytes(limits, 0, action, desk.lent_part());
+        let acted = line.with(number).with(action).with(hash_bytes(sent));
+        Ok(acted.with(*alone))
     }
-}
 
-// A pacer that was turned down is shown, and the earlier one is played on.
-fn made(line: Line, earlier: WriterPacerAlone, call: WriterPacerLeft) -> PacerPlayed {
-    let alone = call.alone;
-    let played = quiet(line, call.answer, alone);
-    if call.answer == 0 {
-        played
-    } else {
-        let line = played.line;
-        PacerPlayed {
-            alone: earlier,
-            line,
-        }
-    }
-}
-
-fn left(line: Line, call: WriterPacerLeft) -> PacerPlayed {
-    let alone = call.alone;
-    quiet(line, call.answer, alone)
-}
-
-// The used bytes of the buffer go into the lent part of the pool.
-fn enqueue(
-    alone: WriterPacerAlone,
-    pool: &mut [u8],
-    bytes: &[u8],
-    spans: Spans,
-    r: Record,
-) -> WriterPacerLeft {
-    let used = spans.used;
-    let lent = spans.lent;
-    if used <= bytes.len() {
-        if lent <= pool.len() {
-            return alone.enqueue(r.a, &mut pool[0..lent], class_of(r.b), &bytes[0..used]);
-        }
-    }
-    WriterPacerLeft { answer: 0, alone }
-}
-
-// The same under a key.
-fn enqueue_p2_keyed(
-    alone: WriterPacerAlone,
-    pool: &mut [u8],
-    bytes: &[u8],
-    spans: Spans,
-    r: Record,
-) -> WriterPacerLeft {
-    let key = InstanceKey::new(r.b, r.c);
-    let used = spans.used;
-    let lent = spans.lent;
-    if used <= bytes.len() {
-        if lent <= pool.len() {
-            return alone.enqueue_p2_keyed(r.a, &mut pool[0..lent], key, &bytes[0..used]);
-        }
-    }
-    WriterPacerLeft { answer: 0, alone }
-}
-
-fn try_send(
-    line: Line,
-    alone: WriterPacerAlone,
-    pool: &[u8],
-    lent: usize,
-    time: u64,
-) -> PacerPlayed {
-    if lent <= pool.len() {
-        let call = alone.try_send(time, &pool[0..lent]);
-        return sent(line, call, pool, lent);
-    }
-    PacerPlayed { alone, line }
-}
-
-// The pacer, and its line with what a send attempt came to.
-fn sent(line: Line, call: WriterPacerSent, pool: &[u8], lent: usize) -> PacerPlayed {
-    let action = call.action;
-    let alone = call.alone;
-    let config = alone.config();
-    let digest = sent_digest(config.limits(), action, pool, lent);
-    let acted = with_action(line.with_u8(call.answer), action).with(digest);
-    PacerPlayed {
-        alone,
-        line: with_pacer(acted, alone),
-    }
-}
-
-// The same where nothing was tried to be sent.
-fn quiet(line: Line, answer: u8, alone: WriterPacerAlone) -> PacerPlayed {
-    let acted = with_action(line.with_u8(answer), SendAction::Empty).with(DIGEST_START);
-    PacerPlayed {
-        alone,
-        line: with_pacer(acted, alone),
+    fn nothing(line: Line) -> Line {
+        line.with_zeros(5)
+            .with(DIGEST_START)
+            .with_zeros(24)
+            .with(DIGEST_START)
     }
 }
 
 // Which action it is, then the class, sequence and length of a sent record, and the wait.
-pub(crate) fn with_action(line: Line, action: SendAction) -> Line {
-    match action {
-        SendAction::Send {
-            class,
-            slot: _,
-            sequence,
-            length,
-            forced: _,
-        } => line
-            .with(1)
-            .with_u8(class.number())
-            .with(sequence)
-            .with(length)
-            .with(0),
-        SendAction::Empty => line.with(0).with(0).with(0).with(0).with(0),
-        SendAction::RateLimited(wait) => line.with(2).with(0).with(0).with(0).with(wait),
+impl Shown for SendAction {
+    fn show(self, line: Line) -> Line {
+        match self {
+            SendAction::Send {
+                class,
+                sequence,
+                length,
+                ..
+            } => line
+                .with(1u64)
+                .with(u8::from(class))
+                .with(sequence)
+                .with(length)
+                .with(0u64),
+            SendAction::Empty => line.with_zeros(5),
+            SendAction::RateLimited(wait) => line.with(2u64).with_zeros(3).with(wait),
+        }
     }
 }
 
-// The bytes of a sent record as the lent part of the pool holds them.
-fn sent_digest(limits: Limits, action: SendAction, pool: &[u8], lent: usize) -> u64 {
-    if lent <= pool.len() {
-        hash_bytes(writer_pacer::sent_bytes(limits, 0, action, &pool[0..lent]))
-    } else {
-        0
+impl Shown for WriterPacerAlone {
+    fn show(self, line: Line) -> Line {
+        let words = self.words();
+        let pacer = Pacer {
+            core: self.core(),
+            words: &words,
+            i: 0,
+        };
+        line.with(pacer).with(self.ledger()).with(pacer.waiting())
     }
 }
 
-fn with_pacer(line: Line, alone: WriterPacerAlone) -> Line {
-    let words = alone.words();
-    with_parts(line, alone.core(), alone.ledger(), &words)
+// Pacer i of those whose entries and counts lie in the words.
+#[derive(Clone, Copy)]
+pub(crate) struct Pacer<'a> {
+    pub(crate) core: PacerCore,
+    pub(crate) words: &'a [u64],
+    pub(crate) i: u8,
 }
 
-fn with_parts(line: Line, core: PacerCore, ledger: Ledger, words: &[u64]) -> Line {
-    with_fields(line, core, words, 0)
-        .with(ledger.calls())
-        .with(ledger.last())
-        .with(waiting(core, words, 0))
+impl Pacer<'_> {
+    // The digest of what waits, in the order of the classes.
+    pub(crate) fn waiting(self) -> u64 {
+        let p0 = self.joined_class(DIGEST_START, Priority::P0);
+        let p1 = self.joined_class(p0, Priority::P1);
+        self.joined_class(p1, Priority::P2)
+    }
+
+    fn joined_class(self, digest: u64, class: Priority) -> u64 {
+        let at = entries::queue_at(self.i, class);
+        joined_ring(digest, self.core.queue(class), self.words, at, class)
+    }
 }
 
-// All of pacer i but the digest of what waits.
-pub(crate) fn with_fields(line: Line, core: PacerCore, words: &[u64], i: u8) -> Line {
-    let numbered = with_core(line, core).with(writer_pacer::total_bytes_p2(words, i));
-    with_metrics(numbered, writer_pacer::metrics(words, i))
+// All but the digest of what waits.
+impl Shown for Pacer<'_> {
+    fn show(self, line: Line) -> Line {
+        line.with(self.core)
+            .with(writer_pacer::total_bytes_p2(self.words, self.i))
+            .with(writer_pacer::metrics(self.words, self.i))
+    }
 }
 
 // The bucket, the lengths of the queues and the next sequence numbers.
-fn with_core(line: Line, core: PacerCore) -> Line {
-    with_tokens(line, core)
-        .with_u16(core.queue(Priority::P0).count())
-        .with_u16(core.queue(Priority::P1).count())
-        .with_u16(core.queue(Priority::P2).count())
-        .with(core.next_sequence())
-        .with(core.queue_p2().next_sequence())
+impl Shown for PacerCore {
+    fn show(self, line: Line) -> Line {
+        line.with(self.tokens())
+            .with(self.queue(Priority::P0).count())
+            .with(self.queue(Priority::P1).count())
+            .with(self.queue(Priority::P2).count())
+            .with(self.next_sequence())
+            .with(self.queue_p2().next_sequence())
+    }
 }
 
-// The bucket.
-pub(crate) fn with_tokens(line: Line, core: PacerCore) -> Line {
-    let bucket = core.tokens();
-    line.with(bucket.tokens())
-        .with(bucket.capacity())
-        .with_u32(bucket.rate())
-        .with(bucket.last_refill())
-}
-
-fn with_metrics(line: Line, metrics: WriterPacerMetrics) -> Line {
-    line.with(metrics.enqueued_p0)
-        .with(metrics.enqueued_p1)
-        .with(metrics.enqueued_p2)
-        .with(metrics.sent_p0)
-        .with(metrics.sent_p1)
-        .with(metrics.sent_p2)
-        .with(metrics.dropped_p1)
-        .with(metrics.coalesced_p2)
-        .with(metrics.dropped_p2)
-        .with(metrics.bytes_sent)
-        .with(metrics.rate_limited)
-        .with(metrics.force_sends_p0)
-}
-
-// What waits of pacer i, in the order of the classes.
-pub(crate) fn waiting(core: PacerCore, words: &[u64], i: u8) -> u64 {
-    let p0 = joined_class(DIGEST_START, core, words, i, Priority::P0);
-    let p1 = joined_class(p0, core, words, i, Priority::P1);
-    joined_class(p1, core, words, i, Priority::P2)
-}
-
-fn joined_class(digest: u64, core: PacerCore, words: &[u64], i: u8, class: Priority) -> u64 {
-    joined_ring(
-        digest,
-        core.queue(class),
-        words,
-        entries::queue_at(i, class),
-        class,
-    )
+impl Shown for WriterPacerMetrics {
+    fn show(self, line: Line) -> Line {
+        line.with(self.enqueued_p0)
+            .with(self.enqueued_p1)
+            .with(self.enqueued_p2)
+            .with(self.sent_p0)
+            .with(self.sent_p1)
+            .with(self.sent_p2)
+            .with(self.dropped_p1)
+            .with(self.coalesced_p2)
+            .with(self.dropped_p2)
+            .with(self.bytes_sent)
+            .with(self.rate_limited)
+            .with(self.force_sends_p0)
+    }
 }

@@ -1,101 +1,118 @@
 // The tracker of peers.
-use crate::digest::{DIGEST_START, joined, joined_flag};
-use crate::line::Line;
-use crate::rtt_ops::with_estimator;
-use crate::words::{Record, f32_of, low_u32};
+use crate::desk::Desk;
+use crate::digest::{DIGEST_START, joined};
+use crate::line::{Line, Shown};
+use crate::operation::{Operation, made_or_zero, remade, taken};
+use crate::words::{Record, Unknown};
+use config::alone::Alone;
+use config::refusal::Refusal;
 use numeric::float::bits_of_f32;
-use signals::rtt_estimator::{PeerRttAnswer, PeerRttTracker, PeerRttTrackerAlone, RttEstimator};
+use signals::peer_rtt_tracker_alone;
+use signals::rtt_estimator::{PeerRttTracker, RttEstimator};
 
-const PEERS_NEW: u64 = 80;
-
-const PEERS_UPDATE: u64 = 81;
-
-const PEERS_CALLS: u64 = 82;
-
-const PEERS_SHOW: u64 = 83;
+#[derive(Clone, Copy)]
+pub(crate) enum PeersOperation {
+    New { default: f32 },
+    Update { time: u64, peer: u32, sample: f32 },
+    Calls(u64),
+    Show { place: usize },
+}
 
 // Places of a tracker.
 const PLACES: u64 = 64;
 
-// The tracker that an operation leaves, and its line.
-#[derive(Clone, Copy)]
-pub(crate) struct PeersPlayed {
-    pub(crate) alone: PeerRttTrackerAlone,
-    pub(crate) line: Line,
-}
+impl TryFrom<Record> for PeersOperation {
+    type Error = Unknown;
 
-pub(crate) fn play(alone: PeerRttTrackerAlone, r: Record) -> PeersPlayed {
-    let operation = r.operation;
-    let line = Line::new(operation);
-    match operation {
-        PEERS_NEW => answered(line, PeerRttTrackerAlone::new(f32_of(r.a))),
-        PEERS_UPDATE => answered(line, alone.update(r.a, low_u32(r.b), f32_of(r.c))),
-        PEERS_CALLS => shown(line, 0, alone.resumed(r.a)),
-        PEERS_SHOW => PeersPlayed {
-            alone,
-            line: with_place(line, alone.tracker(), (r.a % PLACES) as usize),
-        },
-        _ => PeersPlayed { alone, line },
+    fn try_from(r: Record) -> Result<Self, Unknown> {
+        Ok(match r.operation {
+            80 => Self::New {
+                default: r.a.into(),
+            },
+            81 => Self::Update {
+                time: r.a.into(),
+                peer: r.b.into(),
+                sample: r.c.into(),
+            },
+            82 => Self::Calls(r.a.into()),
+            83 => Self::Show {
+                place: (r.a.0 % PLACES) as usize,
+            },
+            _ => return Err(Unknown),
+        })
     }
 }
 
-fn answered(line: Line, call: PeerRttAnswer) -> PeersPlayed {
-    let alone = call.alone;
-    shown(line, call.answer, alone)
+// A new tracker, whatever its default.
+pub(crate) fn fresh(default: f32) -> Alone<PeerRttTracker> {
+    Alone::new(0, PeerRttTracker::new(default))
 }
 
-// The tracker, and its line with a call's answer.
-fn shown(line: Line, answer: u8, alone: PeerRttTrackerAlone) -> PeersPlayed {
-    let tracker = alone.tracker();
-    let ledger = alone.ledger();
-    PeersPlayed {
-        alone,
-        line: line
-            .with_u8(answer)
-            .with_flag(tracker.any_inflated())
-            .with_usize(count_of(tracker))
-            .with(ledger.calls())
-            .with(ledger.last())
-            .with(digest(tracker)),
+impl Operation for PeersOperation {
+    type State = Alone<PeerRttTracker>;
+
+    fn play(
+        self,
+        alone: &mut Alone<PeerRttTracker>,
+        _desk: &mut Desk,
+        line: Line,
+    ) -> Result<Line, Refusal> {
+        let answer = match self {
+            Self::New { default } => {
+                made_or_zero(peer_rtt_tracker_alone::new(default), fresh(0.0), alone)
+            }
+            Self::Update { time, peer, sample } => taken(
+                peer_rtt_tracker_alone::update(*alone, time, peer, sample),
+                alone,
+            ),
+            Self::Calls(calls) => remade(alone.resumed(calls), alone),
+            Self::Show { place } => return Ok(with_place(line, alone.inner, place)),
+        };
+        let line = line.with(answer).with(alone.inner).with(alone.ledger);
+        Ok(line.with(digest(alone.inner)))
     }
-}
-
-fn count_of(tracker: PeerRttTracker) -> usize {
-    tracker.peer_count() as usize
 }
 
 // A place, and the peer there or zeros.
 fn with_place(line: Line, tracker: PeerRttTracker, place: usize) -> Line {
-    let placed = line.with_usize(place);
-    if place < count_of(tracker) {
-        return with_estimator(
-            placed.with_u32(tracker.id_at(place)),
-            tracker.estimator_at(place),
-        );
+    let line = line.with(place);
+    if place < usize::from(tracker.peer_count()) {
+        line.with(tracker.id_at(place))
+            .with(tracker.estimator_at(place))
+    } else {
+        line.with_zeros(9)
     }
-    let zeros = placed.with(0).with(0).with(0).with(0);
-    zeros.with(0).with(0).with(0).with(0).with(0)
+}
+
+// Whether a peer is inflated, and how many they are.
+impl Shown for PeerRttTracker {
+    fn show(self, line: Line) -> Line {
+        line.with(self.any_inflated()).with(self.peer_count())
+    }
 }
 
 // The peers in the order they were entered.
 pub(crate) fn digest(tracker: PeerRttTracker) -> u64 {
-    let count = count_of(tracker);
-    let mut digest = DIGEST_START;
-    let mut k: usize = 0;
-    while k < count {
-        digest = joined_peer(digest, tracker.id_at(k), tracker.estimator_at(k));
-        k += 1;
-    }
-    digest
+    tracker
+        .ids
+        .iter()
+        .zip(tracker.peers.iter())
+        .take(tracker.peer_count().into())
+        .fold(DIGEST_START, |d, (id, peer)| joined_peer(d, *id, *peer))
 }
 
-fn joined_peer(digest: u64, id: u32, estimator: RttEstimator) -> u64 {
-    let d = joined(digest, id as u64);
-    let d = joined(d, bits_of_f32(estimator.rtt()) as u64);
-    let d = joined(d, bits_of_f32(estimator.baseline()) as u64);
-    let d = joined(d, bits_of_f32(estimator.variance()) as u64);
-    let d = joined(d, estimator.samples());
-    let last = estimator.last_sample();
-    let d = joined_flag(d, last.is_known());
-    joined(d, last.time_or_0())
+fn joined_peer(digest: u64, id: u32, peer: RttEstimator) -> u64 {
+    let last = peer.last_sample();
+    joined(
+        digest,
+        &[
+            id.into(),
+            bits_of_f32(peer.rtt()).into(),
+            bits_of_f32(peer.baseline()).into(),
+            bits_of_f32(peer.variance()).into(),
+            peer.samples(),
+            last.is_some().into(),
+            last.unwrap_or(0),
+        ],
+    )
 }

@@ -1,26 +1,83 @@
 // The rate controller.
-use crate::line::Line;
-use crate::words::{Record, f32_of, high_u32, low_u32};
-use control::rate_controller::{RateAnswer, RateController, RateControllerAlone, RateParams};
+use crate::desk::Desk;
+use crate::line::{Line, Shown};
+use crate::operation::{Operation, remade, taken};
+use crate::words::{Record, Unknown, Word};
+use config::alone::Alone;
+use config::refusal::Refusal;
+use control::rate_controller::{RateController, RateParams};
+use control::rate_controller_alone;
+use control::rate_controller_alone::ConfiguredController;
 use control::scorer::CongestionAction;
 
-const RATE_NEW: u64 = 160;
-
-const APPLY_ACTION: u64 = 161;
-
-const RATE_SET_RATE: u64 = 162;
-
-const RATE_CALLS: u64 = 163;
-
-// The rate controller that an operation leaves, and its line.
 #[derive(Clone, Copy)]
-pub(crate) struct RatePlayed {
-    pub(crate) alone: RateControllerAlone,
-    pub(crate) line: Line,
+pub(crate) enum RateOperation {
+    New {
+        time: u64,
+        params: RateParams,
+        rate: u32,
+    },
+    ApplyAction {
+        time: u64,
+        action: CongestionAction,
+    },
+    SetRate {
+        time: u64,
+        rate: u32,
+    },
+    Calls(u64),
+}
+
+impl TryFrom<Record> for RateOperation {
+    type Error = Unknown;
+
+    fn try_from(r: Record) -> Result<Self, Unknown> {
+        let time = r.a.into();
+        let rate = r.b.into();
+        Ok(match r.operation {
+            160 => Self::New {
+                time,
+                params: r.into(),
+                rate,
+            },
+            161 => Self::ApplyAction {
+                time,
+                action: r.b.into(),
+            },
+            162 => Self::SetRate { time, rate },
+            163 => Self::Calls(r.a.into()),
+            _ => return Err(Unknown),
+        })
+    }
+}
+
+// Two to a word, the first in its low half; the initial rate is the least rate's other half.
+impl From<Record> for RateParams {
+    fn from(r: Record) -> RateParams {
+        RateParams {
+            min_rate: r.b.high().into(),
+            max_rate: r.c.into(),
+            ai_step: r.c.high().into(),
+            md_hard: r.d.into(),
+            md_soft: r.d.high().into(),
+        }
+    }
+}
+
+// The action, its digit modulo 4.
+impl From<Word> for CongestionAction {
+    fn from(word: Word) -> CongestionAction {
+        match word.0 % 4 {
+            0 => CongestionAction::None,
+            1 => CongestionAction::Increase,
+            2 => CongestionAction::DecreaseSoft,
+            _ => CongestionAction::DecreaseHard,
+        }
+    }
 }
 
 // Before the first record.
-pub(crate) fn first() -> RateControllerAlone {
+pub(crate) fn first() -> Result<Alone<ConfiguredController>, Refusal> {
     let params = RateParams {
         min_rate: 1,
         max_rate: 1,
@@ -28,100 +85,66 @@ pub(crate) fn first() -> RateControllerAlone {
         md_hard: 1.0,
         md_soft: 1.0,
     };
-    let made = RateControllerAlone::with_params(params, 0, 1);
-    made.alone
+    rate_controller_alone::with_params(params, 0, 1)
 }
 
-pub(crate) fn play(alone: RateControllerAlone, r: Record) -> RatePlayed {
-    let operation = r.operation;
-    let line = Line::new(operation);
-    match operation {
-        RATE_NEW => made(
-            line,
-            alone,
-            RateControllerAlone::with_params(params_of(r), r.a, low_u32(r.b)),
-        ),
-        APPLY_ACTION => answered(line, alone.apply_action(r.a, action_of(r.b))),
-        RATE_SET_RATE => answered(line, alone.set_rate(r.a, low_u32(r.b))),
-        RATE_CALLS => shown(line, 0, false, alone.resumed(r.a)),
-        _ => RatePlayed { alone, line },
+impl Operation for RateOperation {
+    type State = Alone<ConfiguredController>;
+
+    fn play(
+        self,
+        alone: &mut Alone<ConfiguredController>,
+        _desk: &mut Desk,
+        line: Line,
+    ) -> Result<Line, Refusal> {
+        let changed = match self {
+            Self::New { time, params, rate } => {
+                remade(
+                    rate_controller_alone::with_params(params, time, rate)?,
+                    alone,
+                )
+            }
+            Self::ApplyAction { time, action } => taken(
+                rate_controller_alone::apply_action(*alone, time, action),
+                alone,
+            ),
+            Self::SetRate { time, rate } => {
+                taken(rate_controller_alone::set_rate(*alone, time, rate), alone).and(Ok(false))
+            }
+            Self::Calls(calls) => remade(alone.resumed(calls), alone),
+        };
+        let controller = alone.inner.controller;
+        let line = line.with(changed).with(controller.rate());
+        let line = line.with(alone.inner.params).with(controller);
+        Ok(line.with(alone.ledger))
+    }
+
+    fn nothing(line: Line) -> Line {
+        line.with_zeros(17)
     }
 }
 
-// Two to a word, the first in its low half; the initial rate is the least rate's other half.
-fn params_of(r: Record) -> RateParams {
-    RateParams {
-        min_rate: high_u32(r.b),
-        max_rate: low_u32(r.c),
-        ai_step: high_u32(r.c),
-        md_hard: f32_of(r.d),
-        md_soft: f32_of(r.d >> 32),
+impl Shown for RateParams {
+    fn show(self, line: Line) -> Line {
+        line.with(self.min_rate)
+            .with(self.max_rate)
+            .with(self.ai_step)
+            .with(self.md_hard)
+            .with(self.md_soft)
     }
 }
 
-// The action of a number, modulo 4.
-fn action_of(number: u64) -> CongestionAction {
-    match number % 4 {
-        0 => CongestionAction::None,
-        1 => CongestionAction::Increase,
-        2 => CongestionAction::DecreaseSoft,
-        _ => CongestionAction::DecreaseHard,
+// All but the rate: the time of the last change, and the metrics.
+impl Shown for RateController {
+    fn show(self, line: Line) -> Line {
+        let metrics = self.metrics();
+        line.with(self.last_change())
+            .with(metrics.increases)
+            .with(metrics.decreases_soft)
+            .with(metrics.decreases_hard)
+            .with(metrics.capacity_lost)
+            .with(metrics.capacity_gained)
+            .with(metrics.peak_rate)
+            .with(metrics.min_rate_reached)
     }
-}
-
-// A rate controller that was turned down is shown, and the earlier one is played on.
-fn made(line: Line, earlier: RateControllerAlone, call: RateAnswer) -> RatePlayed {
-    let alone = call.alone;
-    let played = shown(line, call.answer, false, alone);
-    if call.answer == 0 {
-        played
-    } else {
-        let line = played.line;
-        RatePlayed {
-            alone: earlier,
-            line,
-        }
-    }
-}
-
-fn answered(line: Line, call: RateAnswer) -> RatePlayed {
-    let alone = call.alone;
-    shown(line, call.answer, call.changed, alone)
-}
-
-// The rate controller, and its line with a call's answer and whether the rate changed.
-fn shown(line: Line, answer: u8, changed: bool, alone: RateControllerAlone) -> RatePlayed {
-    let ledger = alone.ledger();
-    let controller = alone.controller();
-    let rated = line
-        .with_u8(answer)
-        .with_flag(changed)
-        .with_u32(controller.rate());
-    RatePlayed {
-        alone,
-        line: with_changes(with_params(rated, alone.params()), controller)
-            .with(ledger.calls())
-            .with(ledger.last()),
-    }
-}
-
-fn with_params(line: Line, params: RateParams) -> Line {
-    line.with_u32(params.min_rate)
-        .with_u32(params.max_rate)
-        .with_u32(params.ai_step)
-        .with_f32(params.md_hard)
-        .with_f32(params.md_soft)
-}
-
-// The time of the last change, and the metrics.
-pub(crate) fn with_changes(line: Line, controller: RateController) -> Line {
-    let metrics = controller.metrics();
-    line.with(controller.last_change())
-        .with(metrics.increases)
-        .with(metrics.decreases_soft)
-        .with(metrics.decreases_hard)
-        .with(metrics.capacity_lost)
-        .with(metrics.capacity_gained)
-        .with_u32(metrics.peak_rate)
-        .with_u32(metrics.min_rate_reached)
 }

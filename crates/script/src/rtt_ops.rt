@@ -1,59 +1,83 @@
 // The RTT estimator.
-use crate::line::Line;
-use crate::words::{Record, f32_of};
-use signals::rtt_estimator::{RttAnswer, RttEstimator, RttEstimatorAlone};
+use crate::desk::Desk;
+use crate::line::{Line, Shown};
+use crate::operation::{Operation, made_or_zero, remade, taken};
+use crate::words::{Record, Unknown};
+use config::alone::Alone;
+use config::refusal::Refusal;
+use signals::rtt_estimator::RttEstimator;
+use signals::rtt_estimator_alone;
 
-const RTT_NEW: u64 = 64;
-
-const RTT_UPDATE: u64 = 65;
-
-const RTT_CALLS: u64 = 66;
-
-const RTT_UPDATE_LENT: u64 = 67;
-
-// The estimator that an operation leaves, and its line.
 #[derive(Clone, Copy)]
-pub(crate) struct RttPlayed {
-    pub(crate) alone: RttEstimatorAlone,
-    pub(crate) line: Line,
+pub(crate) enum RttOperation {
+    New { default: f32 },
+    Update { time: u64, sample: f32 },
+    Calls(u64),
+    UpdateLent { time: u64, sample: f32 },
 }
 
-pub(crate) fn play(alone: RttEstimatorAlone, r: Record) -> RttPlayed {
-    let operation = r.operation;
-    let line = Line::new(operation);
-    match operation {
-        RTT_NEW => answered(line, RttEstimatorAlone::new(f32_of(r.a))),
-        RTT_UPDATE => answered(line, alone.update(r.a, f32_of(r.b))),
-        RTT_CALLS => shown(line, 0, alone.resumed(r.a)),
-        RTT_UPDATE_LENT => answered(line, alone.update_lent(r.a, f32_of(r.b))),
-        _ => RttPlayed { alone, line },
+impl TryFrom<Record> for RttOperation {
+    type Error = Unknown;
+
+    fn try_from(r: Record) -> Result<Self, Unknown> {
+        Ok(match r.operation {
+            64 => Self::New {
+                default: r.a.into(),
+            },
+            65 => Self::Update {
+                time: r.a.into(),
+                sample: r.b.into(),
+            },
+            66 => Self::Calls(r.a.into()),
+            67 => Self::UpdateLent {
+                time: r.a.into(),
+                sample: r.b.into(),
+            },
+            _ => return Err(Unknown),
+        })
     }
 }
 
-fn answered(line: Line, call: RttAnswer) -> RttPlayed {
-    let alone = call.alone;
-    shown(line, call.answer, alone)
+// A new estimator, whatever its default.
+pub(crate) fn fresh(default: f32) -> Alone<RttEstimator> {
+    Alone::new(0, RttEstimator::new(default))
 }
 
-// The estimator, and its line with a call's answer.
-fn shown(line: Line, answer: u8, alone: RttEstimatorAlone) -> RttPlayed {
-    let ledger = alone.ledger();
-    RttPlayed {
-        alone,
-        line: with_estimator(line.with_u8(answer), alone.estimator())
-            .with(ledger.calls())
-            .with(ledger.last()),
+impl Operation for RttOperation {
+    type State = Alone<RttEstimator>;
+
+    fn play(
+        self,
+        alone: &mut Alone<RttEstimator>,
+        _desk: &mut Desk,
+        line: Line,
+    ) -> Result<Line, Refusal> {
+        let answer = match self {
+            Self::New { default } => {
+                made_or_zero(rtt_estimator_alone::new(default), fresh(0.0), alone)
+            }
+            Self::Update { time, sample } => {
+                taken(rtt_estimator_alone::update(*alone, time, sample), alone)
+            }
+            Self::Calls(calls) => remade(alone.resumed(calls), alone),
+            Self::UpdateLent { time, sample } => taken(
+                rtt_estimator_alone::update_lent(*alone, time, sample),
+                alone,
+            ),
+        };
+        Ok(line.with(answer).with(alone.inner).with(alone.ledger))
     }
 }
 
 // rtt, min, var, samples, kind and time of the last sample, rto, inflated.
-pub(crate) fn with_estimator(line: Line, estimator: RttEstimator) -> Line {
-    line.with_f32(estimator.rtt())
-        .with_f32(estimator.baseline())
-        .with_f32(estimator.variance())
-        .with(estimator.samples())
-        .with_flag(estimator.last_sample().is_known())
-        .with(estimator.last_sample().time_or_0())
-        .with_f32(estimator.rto())
-        .with_flag(estimator.is_inflated())
+impl Shown for RttEstimator {
+    fn show(self, line: Line) -> Line {
+        line.with(self.rtt())
+            .with(self.baseline())
+            .with(self.variance())
+            .with(self.samples())
+            .with(self.last_sample())
+            .with(self.rto())
+            .with(self.is_inflated())
+    }
 }

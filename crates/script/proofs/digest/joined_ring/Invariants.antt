@@ -1,9 +1,0 @@
--- `joined_ring` is safe and ends. The measure is the number of records that are left; nothing has to hold from turn to turn.
-use Prim.Native.Nat.{◌-◌}
-use Rattle.script.proofs.digest.joined_ring.Given as goal
-
-abbrev pub invariant-loop-k : goal.invariant-loop-k
-invariant-loop-k l = Unit {0}
-
-abbrev pub decreases-loop-k : goal.decreases-loop-k
-decreases-loop-k l = l.count - l.k
