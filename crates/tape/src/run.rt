@@ -424,7 +424,15 @@ fn eagain(
 {
     let left = parts::on_eagain(place.ledger, config.controller(), core, place.clock);
     let number = left.answer.number();
-    say(place, next, left.ledger, left.core, number, Fields::Nothing, lines)
+    say(
+        place,
+        next,
+        left.ledger,
+        left.core,
+        number,
+        Fields::Nothing,
+        lines,
+    )
 }
 
 fn nacks(
@@ -441,7 +449,15 @@ fn nacks(
 {
     let left = parts::on_nacks(place.ledger, config.controller(), core, place.clock, count);
     let number = left.answer.number();
-    say(place, next, left.ledger, left.core, number, Fields::Nothing, lines)
+    say(
+        place,
+        next,
+        left.ledger,
+        left.core,
+        number,
+        Fields::Nothing,
+        lines,
+    )
 }
 
 fn tos(
@@ -528,7 +544,15 @@ fn set_rate(
         };
     }
     let number = left.answer.number();
-    say(place, next, left.ledger, left.core, number, Fields::Nothing, lines)
+    say(
+        place,
+        next,
+        left.ledger,
+        left.core,
+        number,
+        Fields::Nothing,
+        lines,
+    )
 }
 
 // A signal, a tick or a rate setting, after the advances before it.
