@@ -3,14 +3,16 @@ ghost use Rattle.std.specs.Prelude.{◌≡◌, ◌+◌, ◌-◌, ◌*◌, ◌%�
 ghost use Rattle.numeric.specs.Integer.{up_to_u64, up_to_u32, next, next_u32};
 
 // The product modulo 2^64, for the key hash: Rust's `wrapping_mul`.
-// Stays: the project's scope asks for an "own wrapping multiplication helper for u64, used by the key hash".
 // Of the four products of halves, the two mixed ones count only modulo 2^32 and the upper one not at all.
 pub fn wrapping_mul(a: u64, b: u64) -> u64
     ensures { result ≡ a * b % 2 ^ 64 }
 {
     let mixed = (a / 4294967296) * (b % 4294967296) % 4294967296
         + (a % 4294967296) * (b / 4294967296) % 4294967296;
-    (mixed % 4294967296 * 4294967296).wrapping_add((a % 4294967296) * (b % 4294967296))
+    std::num::wrapping_add_u64(
+        mixed % 4294967296 * 4294967296,
+        (a % 4294967296) * (b % 4294967296),
+    )
 }
 
 // One more, or the largest: a counter that stops.
