@@ -2,8 +2,8 @@
 // A word has, from its low bits on: 4 bits for the kind, 4 for the pacer, 4 for the class, 16 for the length, 16 for the
 // key and 20 for the nanoseconds by which the call is later than the one before it.
 use config::config::Priority;
-use pacing::coalescing::InstanceKey;
-use pacing::writer_pacer::SendAction;
+use pacing::send_action::SendAction;
+use queue::entry::InstanceKey;
 
 // Whether the call hands a record in; otherwise it asks what to send.
 pub fn is_hand_in(word: u64) -> bool {

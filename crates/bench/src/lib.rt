@@ -2,3 +2,4 @@
 #![tactic(auto)]
 
 pub mod call;
+pub mod player;

@@ -3,7 +3,7 @@ use bench::call::mix;
 use config::config::{CongestionConfig, EcnMode, Priority};
 use control::budget_allocator::{WriterInfo, WriterTable};
 use control::controller::ControllerCore;
-use numeric::float::bits_of_f32;
+use std::num::f32_to_bits_with_nan;
 
 // The kinds of calls.
 #[derive(Clone, Copy, Debug, PartialEq, Eq)]
@@ -112,7 +112,7 @@ pub fn mix_u32(sum: u64, x: u32) -> u64 {
 
 // The checksum with a float more.
 pub fn mix_f32(sum: u64, x: f32) -> u64 {
-    mix_u32(sum, bits_of_f32(x))
+    mix_u32(sum, f32_to_bits_with_nan(x))
 }
 
 // The checksum with a flag more, such as a signal.
@@ -121,20 +121,20 @@ pub fn mix_flag(sum: u64, flag: bool) -> u64 {
 }
 
 // The checksum with the rate and the score that a tick left.
-pub fn mix_tick(sum: u64, core: ControllerCore) -> u64 {
+pub fn mix_tick(sum: u64, core: &ControllerCore) -> u64 {
     mix_f32(mix_u32(sum, core.rate()), core.scorer().score())
 }
 
 // The checksum with a writer's update more.
-fn mix_update(sum: u64, row: WriterInfo) -> u64 {
+fn mix_update(sum: u64, row: &WriterInfo) -> u64 {
     mix_u32(mix_u32(mix(sum, row.id), row.previous_bps), row.budget_bps)
 }
 
 // The checksum with every writer's update.
-pub fn mix_updates(sum: u64, table: WriterTable) -> u64 {
+pub fn mix_updates(sum: u64, table: &WriterTable) -> u64 {
     let mut total = sum;
-    for row in table.rows().iter().take(usize::from(table.count())) {
-        total = mix_update(total, *row);
+    for row in table.writers() {
+        total = mix_update(total, row);
     }
     total
 }

@@ -65,7 +65,7 @@ fn mix_rate_controller(sum: u64, controller: RateController) -> u64 {
     mix_u32(mix_u32(sum, metrics.peak_rate), metrics.min_rate_reached)
 }
 
-pub fn mix_core(sum: u64, core: ControllerCore) -> u64 {
+pub fn mix_core(sum: u64, core: &ControllerCore) -> u64 {
     let metrics = core.metrics();
     let nacks = core.nacks();
     let sum = mix_rate_controller(mix_scorer(sum, core.scorer()), core.rate_controller());
@@ -77,7 +77,7 @@ pub fn mix_core(sum: u64, core: ControllerCore) -> u64 {
     )
 }
 
-pub fn mix_allocator(sum: u64, allocator: BudgetAllocator) -> u64 {
+pub fn mix_allocator(sum: u64, allocator: &BudgetAllocator) -> u64 {
     let stats = allocator.stats();
     let sum = mix(mix_u32(sum, allocator.global_budget()), stats.reallocations);
     mix(

@@ -18,43 +18,40 @@ pub fn run(list: &[u64], other: bool) -> u64 {
         time = call::time_of(word, time);
         match call::kind_of(word) {
             Kind::Tick => {
-                let ticked = core.tick(config, time, tracker.any_inflated());
-                core = ticked.core;
-                if ticked.changed {
-                    allocator = allocator.reallocate(config.allocation, core.rate());
+                if core.tick(config, time, tracker.any_inflated()) {
+                    allocator.reallocate(config.allocation, core.rate());
                     sum = call::mix_updates(sum, allocator.table());
                 }
-                sum = call::mix_tick(sum, core);
+                sum = call::mix_tick(sum, &core);
             }
             Kind::SetRate => {
-                core = core.set_rate(config, time, call::amount_of(word));
-                allocator = allocator.reallocate(config.allocation, call::amount_of(word));
+                core.set_rate(config, time, call::amount_of(word));
+                allocator.reallocate(config.allocation, call::amount_of(word));
                 sum = call::mix_updates(sum, allocator.table());
             }
             Kind::Sample => {
-                tracker.update_in_place(time, call::number_of(word), call::sample_of(word));
+                tracker.update(time, call::number_of(word), call::sample_of(word));
             }
             Kind::Show => {
                 let place = call::number_of(word) as usize;
                 sum = left::mix_estimator(sum, tracker.estimator_at(place));
             }
             Kind::Register => {
-                allocator = allocator.register(call::number_of(word) as u64, call::class_of(word));
+                allocator.register(call::number_of(word) as u64, call::class_of(word));
             }
             Kind::Tos => {
-                let marked = core.on_ecn_tos(config, call::tos_of(word));
-                core = marked.core;
-                sum = call::mix_flag(sum, marked.signal);
+                let signal = core.on_ecn_tos(config, call::tos_of(word));
+                sum = call::mix_flag(sum, signal);
             }
             Kind::Eagain => {
-                core = core.on_eagain(config);
+                core.on_eagain(config);
                 sum = call::mix_flag(sum, false);
             }
             Kind::Nacks => {
-                core = core.on_nacks(config, call::amount_of(word));
+                core.on_nacks(config, call::amount_of(word));
                 sum = call::mix_flag(sum, false);
             }
         }
     }
-    left::mix_core(left::mix_allocator(sum, allocator), core)
+    left::mix_core(left::mix_allocator(sum, &allocator), &core)
 }

@@ -25,9 +25,9 @@ pub fn packets(list: &[u64]) -> u64 {
     let mut processor = EcnProcessor::new();
     let mut sum: u64 = 0;
     for word in list {
-        let processed = processor.process_tos(call::tos_of(*word));
-        processor = processed.processor;
-        sum = call::mix_flag(sum, processed.signal);
+        let (counted, signal) = processor.process_tos(call::tos_of(*word));
+        processor = counted;
+        sum = call::mix_flag(sum, signal);
     }
     left::mix_processor(sum, processor)
 }

@@ -1,11 +1,13 @@
 // The same list of calls on one controller through its public calls, which take it by value and give it back.
 use bench_control::call::{self, Kind};
 use bench_control::left;
-use config::alone::Left;
-use control::controller::{CongestionController, CongestionControllerAlone};
+use config::alone::{Alone, Left};
+use control::controller::CongestionController;
+use control::controller_alone;
+use control::controller_alone::ConfiguredCongestion;
 
 // What a call leaves that tells nothing.
-fn silent(left: Left<CongestionControllerAlone, ()>) -> Left<CongestionControllerAlone, bool> {
+fn silent(left: Left<Alone<ConfiguredCongestion>, ()>) -> Left<Alone<ConfiguredCongestion>, bool> {
     Left {
         state: left.state,
         answer: left.answer.map(|_| false),
@@ -14,39 +16,46 @@ fn silent(left: Left<CongestionControllerAlone, ()>) -> Left<CongestionControlle
 
 // A call by its kind; a peer that is shown is read off the state, with no call.
 fn called(
-    alone: CongestionControllerAlone,
+    alone: Alone<ConfiguredCongestion>,
     time: u64,
     word: u64,
-) -> Left<CongestionControllerAlone, bool> {
+) -> Left<Alone<ConfiguredCongestion>, bool> {
     let number = call::number_of(word);
+    let amount = call::amount_of(word);
     match call::kind_of(word) {
-        Kind::Tick => alone.tick(time),
-        Kind::SetRate => alone.set_rate(time, call::amount_of(word)),
-        Kind::Sample => silent(alone.on_rtt_sample(time, number, call::sample_of(word))),
-        Kind::Tos => alone.on_ecn_tos(call::tos_of(word)),
-        Kind::Register => silent(alone.register_writer(number as u64, call::class_of(word))),
-        Kind::Eagain => silent(alone.on_eagain()),
+        Kind::Tick => controller_alone::tick(alone, time),
+        Kind::SetRate => controller_alone::set_rate(alone, time, amount),
+        Kind::Sample => {
+            let sample = call::sample_of(word);
+            silent(controller_alone::on_rtt_sample(alone, time, number, sample))
+        }
+        Kind::Tos => controller_alone::on_ecn_tos(alone, call::tos_of(word)),
+        Kind::Register => {
+            let class = call::class_of(word);
+            silent(controller_alone::register_writer(alone, number as u64, class))
+        }
+        Kind::Eagain => silent(controller_alone::on_eagain(alone)),
         Kind::Show => Left {
             state: alone,
             answer: Ok(false),
         },
-        Kind::Nacks => silent(alone.on_nacks(call::amount_of(word))),
+        Kind::Nacks => silent(controller_alone::on_nacks(alone, amount)),
     }
 }
 
 // The checksum with every update, where the call told some.
-fn mix_told(sum: u64, told: bool, controller: CongestionController) -> u64 {
+fn mix_told(sum: u64, told: bool, controller: &CongestionController) -> u64 {
     if told {
-        call::mix_updates(sum, controller.allocator().table())
+        call::mix_updates(sum, controller.table())
     } else {
         sum
     }
 }
 
 // The checksum with what a call answered and left, by its kind.
-fn mix_left(sum: u64, word: u64, told: bool, controller: CongestionController) -> u64 {
+fn mix_left(sum: u64, word: u64, told: bool, controller: &CongestionController) -> u64 {
     match call::kind_of(word) {
-        Kind::Tick => call::mix_tick(mix_told(sum, told, controller), controller.core()),
+        Kind::Tick => call::mix_tick(mix_told(sum, told, controller), &controller.core()),
         Kind::SetRate => mix_told(sum, told, controller),
         Kind::Sample | Kind::Register => sum,
         Kind::Show => {
@@ -59,7 +68,7 @@ fn mix_left(sum: u64, word: u64, told: bool, controller: CongestionController) -
 
 // The checksum of a list of calls on a new controller.
 pub fn run(list: &[u64], other: bool) -> u64 {
-    let Ok(mut alone) = CongestionControllerAlone::new(call::settings(other), 0) else {
+    let Ok(mut alone) = controller_alone::new(call::settings(other), 0) else {
         return 0;
     };
     let mut time: u64 = 0;
@@ -69,11 +78,11 @@ pub fn run(list: &[u64], other: bool) -> u64 {
         let left = called(alone, time, *word);
         alone = left.state;
         let told = left.answer == Ok(true);
-        sum = mix_left(sum, *word, told, alone.controller());
+        sum = mix_left(sum, *word, told, &alone.inner.controller);
     }
-    let controller = alone.controller();
+    let controller = &alone.inner.controller;
     left::mix_core(
         left::mix_allocator(sum, controller.allocator()),
-        controller.core(),
+        &controller.core(),
     )
 }

@@ -1,4 +1,4 @@
-// The benchmark's lists on the parts of four pacers: a static library of its own, so that what it calls is compiled into it.
+// The benchmark's lists on four pacers called in place: a static library of its own, so that what it calls is compiled into it.
 #![tactic(auto)]
 
 pub mod parts;

@@ -1,88 +1,116 @@
-// A list of calls on the parts of four pacers: cores, words and the ledger are locals, and nothing larger than a core is moved.
-use bench::call;
-use config::answer::Numbered;
-use config::config::CongestionConfig;
+// A list of calls on four pacers, which are called in place.
+use bench::player;
+use bench::player::Player;
+use config::alone::Left;
+use config::config::{CongestionConfig, Priority};
 use config::ledger::Ledger;
-use pacing::pool::Limits;
-use pacing::writer_pacer::{Handed, PacerCore, SendAction, SendTried};
-use pacing::{pool, writer_pacer};
+use config::refusal::Refusal;
+use pacing::send_action::SendAction;
+use pacing::writer_pacer::WriterPacer;
+use pacing::{send_action, writer_pacer_alone};
+use queue::entry::InstanceKey;
+use queue::fate::Fate;
+use queue::pool::Limits;
 
-// The slots that a pool of four pacers has.
-fn slots_of_four(limits: Limits) -> usize {
-    limits.slots() * 4
+type Pacer = WriterPacer<128, 512, 128>;
+
+#[derive(Drop)]
+struct Four {
+    ledger: Ledger,
+    limits: Limits,
+    pacers: [Pacer; 4],
 }
 
-// Call k of a list, a checked hand-in to one of four pacers.
-fn hand_in(
-    word: u64,
-    k: usize,
-    ledger: Ledger,
-    core: PacerCore,
-    limits: Limits,
-    words: &mut [u64; 7220],
-    pool: &mut [u8],
-    bytes: &[u8],
-    time: u64,
-) -> Handed {
-    let sample = pool::shown(bytes, call::start_of(k), call::length_of(word));
-    let slots = slots_of_four(limits);
-    let length = sample.len();
-    let verdict = writer_pacer::check_hand_in(ledger, true, slots, pool.len(), time, length);
-    let i = call::pacer_of(word);
-    let class = call::class_of(word);
-    let key = call::key_of(word);
-    writer_pacer::hand_in(
-        verdict, ledger, core, limits, words, pool, time, i, class, key, sample,
-    )
+impl Four {
+    // Four new pacers of one rate.
+    fn new(rate_bps: u32) -> Option<Four> {
+        let limits = Limits::of(CongestionConfig::new());
+        Some(Four {
+            ledger: Ledger::new(0),
+            limits,
+            pacers: [
+                Pacer::new(0, limits, rate_bps)?,
+                Pacer::new(0, limits, rate_bps)?,
+                Pacer::new(0, limits, rate_bps)?,
+                Pacer::new(0, limits, rate_bps)?,
+            ],
+        })
+    }
+
+    // The slots that a pool of four pacers has.
+    fn slots(&self) -> usize {
+        self.limits.slots() * 4
+    }
+
+    // A checked hand-in to pacer i.
+    fn take(
+        &mut self,
+        time: u64,
+        pool: &mut [u8],
+        i: u8,
+        class: Priority,
+        key: InstanceKey,
+        sample: &[u8],
+    ) -> Result<Fate, Refusal> {
+        let (slots, length) = (self.slots(), sample.len());
+        writer_pacer_alone::check_hand_in(self.ledger, true, slots, pool.len(), time, length)?;
+        let pacer = self
+            .pacers
+            .get_mut(i as usize)
+            .ok_or(Refusal::WriterUnknown)?;
+        let kept = pacer.hand_in(class, key, length as u64);
+        send_action::store(pool, self.limits, i, class, kept, sample);
+        self.ledger = self.ledger.moved(time);
+        Ok(kept.fate)
+    }
+
+    // A checked send attempt of pacer i.
+    fn give(&mut self, time: u64, pool: &[u8], i: u8) -> Result<SendAction, Refusal> {
+        writer_pacer_alone::check_send(self.ledger, self.slots(), pool.len(), time)?;
+        let pacer = self
+            .pacers
+            .get_mut(i as usize)
+            .ok_or(Refusal::WriterUnknown)?;
+        let action = pacer.try_send(time);
+        self.ledger = self.ledger.moved(time);
+        Ok(action)
+    }
 }
 
-// A checked send attempt of pacer i of four.
-fn send(
-    ledger: Ledger,
-    core: PacerCore,
-    limits: Limits,
-    words: &mut [u64; 7220],
-    pool_length: usize,
-    time: u64,
-    i: u8,
-) -> SendTried {
-    let verdict = writer_pacer::check_send(ledger, slots_of_four(limits), pool_length, time);
-    writer_pacer::send(verdict, true, ledger, core, words, time, i)
+impl Player for &mut Four {
+    fn pacers() -> u8 {
+        4
+    }
+
+    fn hand_in(
+        self,
+        time: u64,
+        pool: &mut [u8],
+        i: u8,
+        class: Priority,
+        key: InstanceKey,
+        sample: &[u8],
+    ) -> Left<Self, Fate> {
+        let answer = self.take(time, pool, i, class, key, sample);
+        Left {
+            state: self,
+            answer,
+        }
+    }
+
+    fn send(self, time: u64, pool: &[u8], i: u8) -> Left<Self, SendAction> {
+        let answer = self.give(time, pool, i);
+        Left {
+            state: self,
+            answer,
+        }
+    }
 }
 
 // The checksum of a list of calls on four new pacers of one rate.
 pub fn run(list: &[u64], pool: &mut [u8], bytes: &[u8], rate_bps: u32) -> u64 {
-    let limits = Limits::of(CongestionConfig::new());
-    let core = PacerCore::with_rate(0, limits, rate_bps);
-    let mut cores = [core; 4];
-    let mut words = [0u64; 7220];
-    let mut ledger = Ledger::new(0);
-    let mut time: u64 = 0;
-    let mut sum: u64 = 0;
-    for (k, word) in list.iter().enumerate() {
-        let word = *word;
-        time = call::time_of(word, time);
-        let i = call::pacer_of(word);
-        let at = (i % 4) as usize;
-        let before = cores[at];
-        if call::is_hand_in(word) {
-            let handed = hand_in(
-                word, k, ledger, before, limits, &mut words, pool, bytes, time,
-            );
-            ledger = handed.ledger;
-            cores[at] = handed.core;
-            sum = call::mix_answer(sum, handed.answer.number());
-        } else {
-            let tried = send(ledger, before, limits, &mut words, pool.len(), time, i);
-            let action = tried.answer.unwrap_or(SendAction::Empty);
-            ledger = tried.ledger;
-            cores[at] = tried.core;
-            sum = call::mix_action(
-                call::mix_answer(sum, tried.answer.number()),
-                action,
-                writer_pacer::sent_bytes(limits, i, action, pool),
-            );
-        }
+    match Four::new(rate_bps) {
+        Some(mut four) => player::run(&mut four, list, pool, bytes),
+        None => 0,
     }
-    sum
 }

@@ -4,7 +4,7 @@
 
 ghost use Rattle.std.specs.Prelude.{◌≡◌, length};
 ghost use Rattle.config.specs.Refusal.{verdict_of};
-ghost use Rattle.pacing.specs.Coalescing.{fnv1a};
+ghost use Rattle.queue.specs.Coalescing.{fnv1a};
 ghost use Rattle.control.specs.RateController.{decreased};
 ghost use Rattle.tape.specs.Run.{tape_text};
 ghost use Rattle.bowunte.specs.Doors.{shown, told_or, told_number, told_left, result_checks, rate_out, decrease_checks, tape_checks, hash_answer, decrease_answer, tape_answer, out_left, lines_left_by};
@@ -13,7 +13,7 @@ use config::answer::Numbered;
 use config::config::factor_out;
 use config::refusal::{ACCEPTED, LARGEST_RATE, Refusal};
 use control::rate_controller::decrease;
-use pacing::coalescing::hash_bytes;
+use queue::coalescing::hash_bytes;
 
 // The bytes of a result.
 const RESULT_BYTES: usize = 8;
@@ -88,9 +88,7 @@ fn run_tape(bytes: &[u8], lines: &mut [u8], room: usize) -> Result<u64, Refusal>
     ensures lines_after { lines.new ≡ lines_left_by (tape_answer (length bytes.now) (length lines.old) room) bytes.now lines.old }
 {
     check_result(room)?;
-    let ran = tape::run::run(bytes, lines);
-    Refusal::BufferTooShort.when(ran.answer != ACCEPTED)?;
-    Ok(ran.length)
+    tape::run::run(bytes, lines)
 }
 
 // The FNV-1a hash, 64 bits, of the bytes; 8 where `out` is shorter than 8 bytes.

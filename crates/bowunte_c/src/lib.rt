@@ -2,7 +2,7 @@
 #![tactic(auto)]
 
 ghost use Rattle.std.specs.Prelude.{◌≡◌, length};
-ghost use Rattle.pacing.specs.Coalescing.{fnv1a};
+ghost use Rattle.queue.specs.Coalescing.{fnv1a};
 ghost use Rattle.control.specs.RateController.{decreased};
 ghost use Rattle.tape.specs.Run.{tape_text};
 ghost use Rattle.bowunte.specs.Doors.{hash_answer, decrease_answer, tape_answer, out_left, lines_left_by};

@@ -1,5 +1,6 @@
 // A module used alone: its state under a ledger of its own. One shell for every call of every module.
 ghost use Rattle.std.specs.Prelude.{◌≡◌, IfErr, OnOk};
+ghost use Rattle.std.specs.Fn.{FnOnceReturnsAtMut};
 ghost use Rattle.config.specs.Alone.{turned_down, taken, begun, resumed_alone};
 
 use crate::ledger::Ledger;
@@ -60,6 +61,34 @@ impl<M: Copy> Alone<M> {
                 let (inner, told) = step(self.inner);
                 Left {
                     state: Alone { ledger, inner },
+                    answer: Ok(told),
+                }
+            }
+        }
+    }
+
+    // The same where the step changes the module in place: a large module is not moved for it.
+    pub fn changed<T: Drop, F: FnOnce(&mut M) -> T + Drop>(
+        self,
+        verdict: Result<(), Refusal>,
+        ledger: Ledger,
+        step: F,
+    ) -> Left<Alone<M>, T>
+        requires { F.IsAlwaysCallable step }
+        ensures refused { IfErr verdict (λ refusal. result ≡ turned_down self refusal) }
+        ensures accepted { OnOk verdict ((m : M) × (t : T) × FnOnceReturnsAtMut F.FnOnce step self.inner t m × (result ≡ taken ledger (m, t))) }
+    {
+        let mut state = self;
+        match verdict {
+            Err(refusal) => Left {
+                state,
+                answer: Err(refusal),
+            },
+            Ok(()) => {
+                let told = step(&mut state.inner);
+                state.ledger = ledger;
+                Left {
+                    state,
                     answer: Ok(told),
                 }
             }

@@ -5,4 +5,5 @@ pub mod alone;
 pub mod answer;
 pub mod config;
 pub mod ledger;
+pub mod per_class;
 pub mod refusal;

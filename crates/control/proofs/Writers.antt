@@ -182,7 +182,7 @@ full-kept : (t : WriterTable) (id : ℕ) (w : WriterInfo) → full_for t id ≡ 
 unfolding full_for is_known without entered
 full-kept t id w e = grind arith
 
-unregistered-table : (a : BudgetAllocator) (id : ℕ) → (unregistered a id).allocator.table ≡ without a.table id
+unregistered-table : (a : BudgetAllocator) (id : ℕ) → (unregistered a id).0.table ≡ without a.table id
 unfolding unregistered is_known without
 unregistered-table a id = grind arith
 
@@ -199,7 +199,7 @@ registered_writers a id class weight size room =
 
 -- a writer unregistered: its id is taken out
 pub unregistered_writers : (a : BudgetAllocator) (id : ℕ) → length a.table.rows ≡ 64 →
-    writers_of (unregistered a id).allocator.table ≡ removed id (writers_of a.table)
+    writers_of (unregistered a id).0.table ≡ removed id (writers_of a.table)
 unregistered_writers a id size = ap writers_of (unregistered-table a id) ∙ writers-without a.table id size
 
 -- reallocation is the allotment of the list

@@ -6,16 +6,15 @@ use Rattle.config.specs.Config.{class_number}
 use Rattle.config.specs.declared.config.CongestionConfig.{CongestionConfig}
 use Rattle.config.specs.declared.config.Priority.{Priority}
 use Rattle.config.specs.declared.config.Priority.TheVariants.{P0, P1, P2}
+use Rattle.config.specs.PerClass.{per_class, value_at, with_value}
+use Rattle.config.specs.declared.per_class.PerClass.{PerClass}
 use Rattle.numeric.specs.Float.{zero32, scaled, max_of}
 use Rattle.numeric.specs.Integer.{up_to_u64, next}
 use Rattle.numeric.specs.Search.{first}
 use Rattle.control.specs.declared.budget_allocator.AllocationConfig.{AllocationConfig}
 use Rattle.control.specs.declared.budget_allocator.AllocationStats.{AllocationStats}
 use Rattle.control.specs.declared.budget_allocator.BudgetAllocator.{BudgetAllocator}
-use Rattle.control.specs.declared.budget_allocator.ClassBudgets.{ClassBudgets}
-use Rattle.control.specs.declared.budget_allocator.ClassWeights.{ClassWeights}
 use Rattle.control.specs.declared.budget_allocator.Shares.{Shares}
-use Rattle.control.specs.declared.budget_allocator.Unregistered.{Unregistered}
 use Rattle.control.specs.declared.budget_allocator.WriterInfo.{WriterInfo}
 use Rattle.control.specs.declared.budget_allocator.WriterTable.{WriterTable}
 
@@ -113,34 +112,17 @@ writer_at t k = cond (ltb k (taken_of t.count)) (row_at t.rows k) blank_writer
 
 -- ---- the allotment: what each writer of a list gets of a rate
 
-abbrev pub class_weights : Float → Float → Float → ClassWeights
-class_weights p0 p1 p2 = record { p0 = p0; p1 = p1; p2 = p2 }
+abbrev pub no_weights : PerClass Float
+no_weights = per_class zero32 zero32 zero32
 
-abbrev pub no_weights : ClassWeights
-no_weights = class_weights zero32 zero32 zero32
-
-abbrev pub weighed_in : Priority → ClassWeights → Float → ClassWeights
-weighed_in P0 s x = class_weights (add binary32 s.p0 x) s.p1 s.p2
-weighed_in P1 s x = class_weights s.p0 (add binary32 s.p1 x) s.p2
-weighed_in P2 s x = class_weights s.p0 s.p1 (add binary32 s.p2 x)
-
-unfoldable pub weighed : ClassWeights → WriterInfo → ClassWeights
-weighed s w = weighed_in w.priority s w.weight
+-- a writer's weight joins its class's
+unfoldable pub weighed : PerClass Float → WriterInfo → PerClass Float
+weighed s w = with_value s w.priority (add binary32 (value_at s w.priority) w.weight)
 
 -- the weights of each class, summed in f32 in the list's order
-unfoldable pub weights_from : ClassWeights → List WriterInfo → ClassWeights
+unfoldable pub weights_from : PerClass Float → List WriterInfo → PerClass Float
 weights_from s [] = s
 weights_from s (w ∷ ws) = weights_from (weighed s w) ws
-
-abbrev pub weight_in : ClassWeights → Priority → Float
-weight_in s P0 = s.p0
-weight_in s P1 = s.p1
-weight_in s P2 = s.p2
-
-abbrev pub budget_in : ClassBudgets → Priority → ℕ
-budget_in b P0 = b.p0
-budget_in b P1 = b.p1
-budget_in b P2 = b.p2
 
 -- a weight's part of a budget; no writer gets less than 1,000
 unfoldable pub share_of : ℕ → Float → Float → ℕ
@@ -168,10 +150,10 @@ unfoldable pub left_from : ℕ → Float → ℕ → List WriterInfo → ℕ
 left_from reserve total left [] = left
 left_from reserve total left (w ∷ ws) = left_from reserve total (left - urgent_part reserve total w) ws
 
-abbrev pub budgets_of : ℕ → ℕ → ClassBudgets
-budgets_of reserve left = record { p0 = reserve; p1 = split_of left; p2 = left - split_of left }
+abbrev pub budgets_of : ℕ → ℕ → PerClass ℕ
+budgets_of reserve left = per_class reserve (split_of left) (left - split_of left)
 
-abbrev pub shares_by : ClassWeights → ℕ → ℕ → List WriterInfo → Shares
+abbrev pub shares_by : PerClass Float → ℕ → ℕ → List WriterInfo → Shares
 shares_by weights reserve rate ws =
     record { weights = weights; budgets = budgets_of reserve (left_from reserve weights.p0 rate ws) }
 
@@ -179,7 +161,7 @@ unfoldable pub shares_of : AllocationConfig → ℕ → List WriterInfo → Shar
 shares_of c rate ws = shares_by (weights_from no_weights ws) (reserve_of c rate) rate ws
 
 unfoldable pub budget_for : Shares → WriterInfo → ℕ
-budget_for s w = share_of (budget_in s.budgets w.priority) w.weight (weight_in s.weights w.priority)
+budget_for s w = share_of (value_at s.budgets w.priority) w.weight (value_at s.weights w.priority)
 
 -- the new budget; the old one is kept beside it
 unfoldable pub with_budget : Shares → WriterInfo → WriterInfo
@@ -240,14 +222,12 @@ unfoldable pub registered : BudgetAllocator → ℕ → Priority → Float → B
 registered a id class weight =
     allocator_of (entered (without a.table id) (new_writer id class weight)) a.global_budget_bps (registered_stats a.stats)
 
-unfoldable pub unregistered : BudgetAllocator → ℕ → Unregistered
+-- what is left, and whether the writer was there
+unfoldable pub unregistered : BudgetAllocator → ℕ → BudgetAllocator × Bool
 unregistered a id =
     cond (is_known a.table id)
-    (record {
-      allocator = allocator_of (without a.table id) a.global_budget_bps (unregistered_stats a.stats);
-      found = true;
-    })
-    (record { allocator = a; found = false })
+    (allocator_of (without a.table id) a.global_budget_bps (unregistered_stats a.stats), true)
+    (a, false)
 
 abbrev pub reallocated_to : BudgetAllocator → ℕ → WriterTable → BudgetAllocator
 reallocated_to a rate t = allocator_of t rate (reallocated_stats a.stats t)

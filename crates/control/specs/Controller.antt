@@ -10,26 +10,20 @@ use Rattle.numeric.specs.Integer.{up_to_u32}
 use Rattle.signals.specs.Ecn.{new_processor, processed_tos, processed_ce}
 use Rattle.signals.specs.RttEstimator.{new_tracker, tracker_updated, full_for, any_inflated}
 use Rattle.signals.specs.declared.ecn.EcnProcessor.{EcnProcessor}
-use Rattle.signals.specs.declared.ecn.Processed.{Processed}
 use Rattle.signals.specs.declared.rtt_estimator.PeerRttTracker.{PeerRttTracker}
 use Rattle.control.specs.BudgetAllocator.{allocation_config_of, new_allocator, one, registered, reallocated}
 use Rattle.control.specs.Metrics.{no_metrics, rate_recorded, change_recorded, eagain_recorded, ce_recorded}
-use Rattle.control.specs.RateController.{params_of, with_params, applied, rate_set}
-use Rattle.control.specs.Scorer.{scorer_config_of, new_scorer, on_rtt_inflated, on_nack, ticked}
+use Rattle.control.specs.RateController.{Applied, params_of, with_params, applied, rate_set}
+use Rattle.control.specs.Scorer.{scorer_config_of, new_scorer, on_rtt_inflated, on_nack, Ticked, ticked}
 use Rattle.control.specs.Scorer as Scorer
 use Rattle.control.specs.declared.budget_allocator.BudgetAllocator.{BudgetAllocator}
 use Rattle.control.specs.declared.controller.CongestionController.{CongestionController}
 use Rattle.control.specs.declared.controller.ControllerConfig.{ControllerConfig}
 use Rattle.control.specs.declared.controller.ControllerCore.{ControllerCore}
-use Rattle.control.specs.declared.controller.ControllerTicked.{ControllerTicked}
-use Rattle.control.specs.declared.controller.CoreTicked.{CoreTicked}
-use Rattle.control.specs.declared.controller.Marked.{Marked}
 use Rattle.control.specs.declared.controller.NackWindow.{NackWindow}
 use Rattle.control.specs.declared.metrics.CongestionMetrics.{CongestionMetrics}
-use Rattle.control.specs.declared.rate_controller.Applied.{Applied}
 use Rattle.control.specs.declared.rate_controller.RateController.{RateController}
 use Rattle.control.specs.declared.scorer.CongestionScorer.{CongestionScorer}
-use Rattle.control.specs.declared.scorer.Ticked.{Ticked}
 
 -- opportunistic and mandatory are one to the controller
 abbrev pub ecn_used : EcnMode → Bool
@@ -95,18 +89,18 @@ with_ecn k p = core_of k.scorer k.rate_controller p k.metrics k.nacks k.last_tic
 unfoldable pub marked : ControllerCore → ControllerCore
 marked k = with_metrics k (on_rtt_inflated k.scorer) (ce_recorded k.metrics)
 
-abbrev pub marked_by : ControllerCore → Processed → Marked
-marked_by k p =
-    cond p.signal (record { core = marked (with_ecn k p.processor); signal = true })
-    (record { core = with_ecn k p.processor; signal = false })
+-- a core, and whether congestion is signalled
+abbrev pub Marked : Type 0
+Marked = ControllerCore × Bool
+
+abbrev pub marked_by : ControllerCore → EcnProcessor × Bool → Marked
+marked_by k p = cond p.1 (marked (with_ecn k p.0), true) (with_ecn k p.0, false)
 
 unfoldable pub on_ecn_tos : ControllerCore → ControllerConfig → ℕ → Marked
-on_ecn_tos k c tos =
-    cond c.enabled (cond c.ecn (marked_by k (processed_tos k.ecn tos)) (record { core = k; signal = false }))
-    (record { core = k; signal = false })
+on_ecn_tos k c tos = cond c.enabled (cond c.ecn (marked_by k (processed_tos k.ecn tos)) (k, false)) (k, false)
 
 unfoldable pub on_ecn_ce : ControllerCore → ControllerConfig → ControllerCore
-on_ecn_ce k c = cond c.enabled (cond c.ecn (marked (with_ecn k (processed_ce k.ecn).processor)) k) k
+on_ecn_ce k c = cond c.enabled (cond c.ecn (marked (with_ecn k (processed_ce k.ecn).0)) k) k
 
 -- ---- a tick
 
@@ -126,15 +120,15 @@ on_window k threshold time = cond (leb 1000000000 (time - k.nacks.start)) (windo
 abbrev pub with_rate : ControllerCore → CongestionScorer → RateController → CongestionMetrics → ControllerCore
 with_rate k s r m = core_of s r k.ecn m k.nacks k.last_tick
 
+-- a core, and whether its rate changed
+abbrev pub CoreTicked : Type 0
+CoreTicked = ControllerCore × Bool
+
 abbrev pub steered_by : ControllerCore → CongestionScorer → Applied → CoreTicked
-steered_by k s a =
-    record {
-      core = with_rate k s a.controller (change_recorded k.metrics a.changed a.controller.current_rate);
-      changed = a.changed;
-    }
+steered_by k s a = (with_rate k s a.0 (change_recorded k.metrics a.1 a.0.current_rate), a.1)
 
 abbrev pub steered_for : ControllerCore → ControllerConfig → ℕ → Ticked → CoreTicked
-steered_for k c time t = steered_by k t.scorer (applied k.rate_controller c.rate time t.action)
+steered_for k c time t = steered_by k t.0 (applied k.rate_controller c.rate time t.1)
 
 unfoldable pub steered : ControllerCore → ControllerConfig → ℕ → CoreTicked
 steered k c time = steered_for k c time (ticked k.scorer c.scorer time)
@@ -145,7 +139,7 @@ ticked_at k time = core_of k.scorer k.rate_controller k.ecn k.metrics k.nacks ti
 unfoldable pub core_ticked : ControllerCore → ControllerConfig → ℕ → Bool → CoreTicked
 core_ticked k c time inflated =
     cond c.enabled (steered (on_window (on_inflated (ticked_at k time) inflated) c.scorer.nack_threshold time) c time)
-    (record { core = k; changed = false })
+    (k, false)
 
 -- the controller's rate is held to its range; the metrics take the rate as given
 unfoldable pub core_set : ControllerCore → ControllerConfig → ℕ → ℕ → ControllerCore
@@ -161,6 +155,17 @@ controller_of k t a = record { core = k; tracker = t; allocator = a }
 unfoldable pub new_controller : ControllerConfig → ℕ → CongestionController
 new_controller c time = controller_of (new_core c time) (new_tracker (of_bits binary32 0x42c8_0000)) new_allocator
 
+-- a signal touches the core alone
+abbrev pub with_core : CongestionController → ControllerCore → CongestionController
+with_core x k = controller_of k x.tracker x.allocator
+
+-- what a TOS byte leaves, and whether congestion is signalled
+abbrev pub with_marked : CongestionController → Marked → CongestionController × Bool
+with_marked x m = (with_core x m.0, m.1)
+
+unfoldable pub tos_in : CongestionController → ControllerConfig → ℕ → CongestionController × Bool
+tos_in x c tos = with_marked x (on_ecn_tos x.core c tos)
+
 unfoldable pub registered_in : CongestionController → ℕ → Priority → CongestionController
 registered_in x id class = controller_of x.core x.tracker (registered x.allocator id class one)
 
@@ -168,16 +173,16 @@ unfoldable pub sampled : CongestionController → ControllerConfig → ℕ → �
 sampled x c time id rtt =
     cond c.enabled (controller_of x.core (tracker_updated x.tracker time id rtt) x.allocator) x
 
+-- a controller, and whether its rate changed: each writer's row then tells its update
+abbrev pub ControllerTicked : Type 0
+ControllerTicked = CongestionController × Bool
+
 -- a changed rate is shared out at once
 abbrev pub ticked_with : CongestionController → ControllerConfig → CoreTicked → ControllerTicked
 ticked_with x c t =
-    cond t.changed
-    (record {
-      controller =
-          controller_of t.core x.tracker (reallocated x.allocator c.allocation t.core.rate_controller.current_rate);
-      changed = true;
-    })
-    (record { controller = controller_of t.core x.tracker x.allocator; changed = false })
+    cond t.1
+    (controller_of t.0 x.tracker (reallocated x.allocator c.allocation t.0.rate_controller.current_rate), true)
+    (controller_of t.0 x.tracker x.allocator, false)
 
 unfoldable pub controller_ticked : CongestionController → ControllerConfig → ℕ → ControllerTicked
 controller_ticked x c time = ticked_with x c (core_ticked x.core c time (any_inflated x.tracker))

@@ -1,97 +1,80 @@
 -- A controller used alone: the reasons that may apply to each call, and what it answers and leaves. Definitions only.
-use Rattle.std.specs.Prelude.{ℕ, Bool, true, List, ◌∷◌, Result, Ok, Err, Float}
+use Rattle.std.specs.Prelude.{ℕ, Bool, true, List, ◌∷◌, Result, Float}
+use Rattle.config.specs.Alone.{begun, answered, made_or}
 use Rattle.config.specs.Config.{making_checks}
-use Rattle.config.specs.Ledger.{opened, resumed, counted, moved, counted_checks, timed_checks, rate_checks}
+use Rattle.config.specs.Ledger.{counted, moved, counted_checks, timed_checks, rate_checks}
 use Rattle.config.specs.Refusal.{Check, when, verdict_of}
+use Rattle.config.specs.declared.alone.Alone.{Alone}
 use Rattle.config.specs.declared.alone.Left.{Left}
 use Rattle.config.specs.declared.config.CongestionConfig.{CongestionConfig}
 use Rattle.config.specs.declared.config.Priority.{Priority}
-use Rattle.config.specs.declared.ledger.Ledger.{Ledger}
 use Rattle.config.specs.declared.refusal.Refusal.{Refusal}
 use Rattle.config.specs.declared.refusal.Refusal.TheVariants.{TableFull}
 use Rattle.signals.specs.RttEstimatorAlone.{sample_checks}
 use Rattle.control.specs.BudgetAllocator.{full_for}
-use Rattle.control.specs.BudgetAllocatorAlone.{made_by}
-use Rattle.control.specs.Controller.{controller_config_of, on_eagain, on_nacks, on_ecn_tos, on_ecn_ce, controller_of, new_controller, registered_in, sampled, controller_ticked, controller_set, full_for_peer}
+use Rattle.control.specs.Controller.{controller_config_of, on_eagain, on_nacks, on_ecn_ce, new_controller, with_core, tos_in, registered_in, sampled, controller_ticked, controller_set, full_for_peer}
 use Rattle.control.specs.declared.controller.CongestionController.{CongestionController}
-use Rattle.control.specs.declared.controller.CongestionControllerAlone.{CongestionControllerAlone}
 use Rattle.control.specs.declared.controller.ControllerConfig.{ControllerConfig}
 use Rattle.control.specs.declared.controller.ControllerCore.{ControllerCore}
-use Rattle.control.specs.declared.controller.ControllerTicked.{ControllerTicked}
-use Rattle.control.specs.declared.controller.Marked.{Marked}
+use Rattle.control.specs.declared.controller_alone.ConfiguredCongestion.{ConfiguredCongestion}
 
-abbrev pub alone_of : Ledger → ControllerConfig → CongestionController → CongestionControllerAlone
-alone_of l c x = record { ledger = l; config = c; controller = x }
+abbrev pub configured : ControllerConfig → CongestionController → ConfiguredCongestion
+configured c x = record { config = c; controller = x }
 
-abbrev pub made_of : ControllerConfig → ℕ → CongestionControllerAlone
-made_of c time = alone_of (opened time) c (new_controller c time)
+-- a controller with no call yet
+abbrev pub made_of : ControllerConfig → ℕ → Alone ConfiguredCongestion
+made_of c time = begun time (configured c (new_controller c time))
 
 -- 1, 2 and 7
-unfoldable pub made_alone : CongestionConfig → ℕ → Result CongestionControllerAlone Refusal
-made_alone c time = made_by (verdict_of (making_checks c time)) (made_of (controller_config_of c) time)
-
-abbrev pub resumed_alone : CongestionControllerAlone → ℕ → CongestionControllerAlone
-resumed_alone a calls = alone_of (resumed a.ledger calls) a.config a.controller
+unfoldable pub made_alone : CongestionConfig → ℕ → Result (Alone ConfiguredCongestion) Refusal
+made_alone c time =
+    made_or (verdict_of (making_checks c time)) time
+    (configured (controller_config_of c) (new_controller (controller_config_of c) time))
 
 -- 17 and 14
-abbrev pub register_checks : CongestionControllerAlone → ℕ → List Check
-register_checks a id = when TableFull (full_for a.controller.allocator.table id) ∷ counted_checks a.ledger
+abbrev pub register_checks : Alone ConfiguredCongestion → ℕ → List Check
+register_checks a id = when TableFull (full_for a.inner.controller.allocator.table id) ∷ counted_checks a.ledger
 
 -- 4, 7, 17, 11, and 14: the peer is new and the table full
-abbrev pub peer_checks : CongestionControllerAlone → ℕ → ℕ → Float → List Check
+abbrev pub peer_checks : Alone ConfiguredCongestion → ℕ → ℕ → Float → List Check
 peer_checks a time id rtt =
-    when TableFull (full_for_peer a.controller a.config id) ∷ sample_checks a.ledger time rtt
+    when TableFull (full_for_peer a.inner.controller a.inner.config id) ∷ sample_checks a.ledger time rtt
 
--- accepted: what is told, and what the step left, under the new ledger; turned down: the reason, and the old state
-abbrev pub left_by :
-    {T : Type 0} → Result Unit Refusal → CongestionControllerAlone → Ledger → CongestionController × T → Left CongestionControllerAlone T
-left_by (Err e) a l r = record { state = a; answer = Err e }
-left_by (Ok u) a l r = record { state = alone_of l a.config r.0; answer = Ok r.1 }
+-- a call that takes no time, and one at a time; r is what the step leaves and gives
+abbrev pub counted_by : {T : Type 0} → List Check → Alone ConfiguredCongestion → CongestionController × T → Left (Alone ConfiguredCongestion) T
+counted_by checks a r = answered a (verdict_of checks) (counted a.ledger) (configured a.inner.config r.0, r.1)
 
--- a call that takes no time, and one at a time
-abbrev pub counted_by : {T : Type 0} → List Check → CongestionControllerAlone → CongestionController × T → Left CongestionControllerAlone T
-counted_by checks a r = left_by (verdict_of checks) a (counted a.ledger) r
+abbrev pub moved_by : {T : Type 0} → List Check → ℕ → Alone ConfiguredCongestion → CongestionController × T → Left (Alone ConfiguredCongestion) T
+moved_by checks time a r = answered a (verdict_of checks) (moved a.ledger time) (configured a.inner.config r.0, r.1)
 
-abbrev pub moved_by : {T : Type 0} → List Check → ℕ → CongestionControllerAlone → CongestionController × T → Left CongestionControllerAlone T
-moved_by checks time a r = left_by (verdict_of checks) a (moved a.ledger time) r
-
-unfoldable pub registered_alone : CongestionControllerAlone → ℕ → Priority → Left CongestionControllerAlone Unit
-registered_alone a id class = counted_by (register_checks a id) a (registered_in a.controller id class, tt)
+unfoldable pub registered_alone : Alone ConfiguredCongestion → ℕ → Priority → Left (Alone ConfiguredCongestion) Unit
+registered_alone a id class = counted_by (register_checks a id) a (registered_in a.inner.controller id class, tt)
 
 -- a signal takes no time, and touches the core alone
-abbrev pub with_core : CongestionController → ControllerCore → CongestionController
-with_core x k = controller_of k x.tracker x.allocator
+unfoldable pub signalled_alone : Alone ConfiguredCongestion → ControllerCore → Left (Alone ConfiguredCongestion) Unit
+signalled_alone a k = counted_by (counted_checks a.ledger) a (with_core a.inner.controller k, tt)
 
-unfoldable pub signalled_alone : {T : Type 0} → CongestionControllerAlone → ControllerCore → T → Left CongestionControllerAlone T
-signalled_alone a k told = counted_by (counted_checks a.ledger) a (with_core a.controller k, told)
+unfoldable pub eagain_alone : Alone ConfiguredCongestion → Left (Alone ConfiguredCongestion) Unit
+eagain_alone a = signalled_alone a (on_eagain a.inner.controller.core a.inner.config)
 
-unfoldable pub eagain_alone : CongestionControllerAlone → Left CongestionControllerAlone Unit
-eagain_alone a = signalled_alone a (on_eagain a.controller.core a.config) tt
-
-unfoldable pub nacks_alone : CongestionControllerAlone → ℕ → Left CongestionControllerAlone Unit
-nacks_alone a count = signalled_alone a (on_nacks a.controller.core a.config count) tt
+unfoldable pub nacks_alone : Alone ConfiguredCongestion → ℕ → Left (Alone ConfiguredCongestion) Unit
+nacks_alone a count = signalled_alone a (on_nacks a.inner.controller.core a.inner.config count)
 
 -- whether congestion is signalled
-abbrev pub marked_alone : CongestionControllerAlone → Marked → Left CongestionControllerAlone Bool
-marked_alone a m = signalled_alone a m.core m.signal
+unfoldable pub tos_alone : Alone ConfiguredCongestion → ℕ → Left (Alone ConfiguredCongestion) Bool
+tos_alone a tos = counted_by (counted_checks a.ledger) a (tos_in a.inner.controller a.inner.config tos)
 
-unfoldable pub tos_alone : CongestionControllerAlone → ℕ → Left CongestionControllerAlone Bool
-tos_alone a tos = marked_alone a (on_ecn_tos a.controller.core a.config tos)
+unfoldable pub ce_alone : Alone ConfiguredCongestion → Left (Alone ConfiguredCongestion) Unit
+ce_alone a = signalled_alone a (on_ecn_ce a.inner.controller.core a.inner.config)
 
-unfoldable pub ce_alone : CongestionControllerAlone → Left CongestionControllerAlone Unit
-ce_alone a = signalled_alone a (on_ecn_ce a.controller.core a.config) tt
-
-unfoldable pub sampled_alone : CongestionControllerAlone → ℕ → ℕ → Float → Left CongestionControllerAlone Unit
-sampled_alone a time id rtt = moved_by (peer_checks a time id rtt) time a (sampled a.controller a.config time id rtt, tt)
+unfoldable pub sampled_alone : Alone ConfiguredCongestion → ℕ → ℕ → Float → Left (Alone ConfiguredCongestion) Unit
+sampled_alone a time id rtt = moved_by (peer_checks a time id rtt) time a (sampled a.inner.controller a.inner.config time id rtt, tt)
 
 -- whether the writers' rows tell updates: where the rate changed, and always where a rate is set
-abbrev pub ticked_by : CongestionControllerAlone → ℕ → ControllerTicked → Left CongestionControllerAlone Bool
-ticked_by a time t = moved_by (timed_checks a.ledger time) time a (t.controller, t.changed)
-
-unfoldable pub ticked_alone : CongestionControllerAlone → ℕ → Left CongestionControllerAlone Bool
-ticked_alone a time = ticked_by a time (controller_ticked a.controller a.config time)
+unfoldable pub ticked_alone : Alone ConfiguredCongestion → ℕ → Left (Alone ConfiguredCongestion) Bool
+ticked_alone a time = moved_by (timed_checks a.ledger time) time a (controller_ticked a.inner.controller a.inner.config time)
 
 -- 6, 7, 17 and 11
-unfoldable pub rated_alone : CongestionControllerAlone → ℕ → ℕ → Left CongestionControllerAlone Bool
+unfoldable pub rated_alone : Alone ConfiguredCongestion → ℕ → ℕ → Left (Alone ConfiguredCongestion) Bool
 rated_alone a time rate =
-    moved_by (rate_checks a.ledger time rate) time a (controller_set a.controller a.config time rate, true)
+    moved_by (rate_checks a.ledger time rate) time a (controller_set a.inner.controller a.inner.config time rate, true)

@@ -1,9 +1,8 @@
 -- The sending rate (document 01, rate_controller.rs): additive increase, multiplicative decrease. Definitions only.
-use Rattle.std.specs.Prelude.{ℕ, ◌+◌, ◌-◌, min, max, true, false, cond, ltb, eqb, Float}
+use Rattle.std.specs.Prelude.{ℕ, ◌+◌, ◌-◌, min, max, Bool, true, false, cond, ltb, eqb, Float}
 use Rattle.config.specs.declared.config.CongestionConfig.{CongestionConfig}
 use Rattle.numeric.specs.Float.{scaled}
 use Rattle.numeric.specs.Integer.{up_to_u64, next}
-use Rattle.control.specs.declared.rate_controller.Applied.{Applied}
 use Rattle.control.specs.declared.rate_controller.RateController.{RateController}
 use Rattle.control.specs.declared.rate_controller.RateControllerMetrics.{RateControllerMetrics}
 use Rattle.control.specs.declared.rate_controller.RateParams.{RateParams}
@@ -85,11 +84,14 @@ held_rate p rate = min (max rate p.min_rate) p.max_rate
 unfoldable pub with_params : RateParams → ℕ → ℕ → RateController
 with_params p time rate = controller_of (held_rate p rate) time (new_metrics (held_rate p rate))
 
+-- a controller, and whether its rate changed
+abbrev pub Applied : Type 0
+Applied = RateController × Bool
+
 -- a rate equal to the old one is no change, and moves nothing
 unfoldable pub changed_to : RateController → ℕ → ℕ → RateControllerMetrics → Applied
 changed_to r time rate m =
-    cond (eqb rate r.current_rate) (record { controller = r; changed = false })
-    (record { controller = controller_of rate time m; changed = true })
+    cond (eqb rate r.current_rate) (r, false) (controller_of rate time m, true)
 
 abbrev pub increased : RateController → ℕ → ℕ → Applied
 increased r time rate = changed_to r time rate (gained_from r.metrics r.current_rate rate)
@@ -101,7 +103,7 @@ abbrev pub decreased_hard : RateController → ℕ → ℕ → Applied
 decreased_hard r time rate = changed_to r time rate (hardened (lost_from r.metrics r.current_rate rate))
 
 unfoldable pub applied : RateController → RateParams → ℕ → CongestionAction → Applied
-applied r p time None = record { controller = r; changed = false }
+applied r p time None = (r, false)
 applied r p time Increase = increased r time (min (r.current_rate + p.ai_step) p.max_rate)
 applied r p time DecreaseSoft = decreased_soft r time (decreased r.current_rate p.md_soft p.min_rate)
 applied r p time DecreaseHard = decreased_hard r time (decreased r.current_rate p.md_hard p.min_rate)

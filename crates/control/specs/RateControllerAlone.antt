@@ -8,8 +8,7 @@ use Rattle.config.specs.declared.alone.Alone.{Alone}
 use Rattle.config.specs.declared.alone.Left.{Left}
 use Rattle.config.specs.declared.refusal.Refusal.{Refusal}
 use Rattle.config.specs.declared.refusal.Refusal.TheVariants.{SettingsBeyond, RateBeyond}
-use Rattle.control.specs.RateController.{with_params, applied, rate_set}
-use Rattle.control.specs.declared.rate_controller.Applied.{Applied}
+use Rattle.control.specs.RateController.{Applied, with_params, applied, rate_set}
 use Rattle.control.specs.declared.rate_controller.RateController.{RateController}
 use Rattle.control.specs.declared.rate_controller.RateParams.{RateParams}
 use Rattle.control.specs.declared.rate_controller_alone.ConfiguredController.{ConfiguredController}
@@ -39,7 +38,7 @@ made_alone p time initial =
 
 -- what the controller after a change is, beside its parameters, and whether the rate changed
 abbrev pub changed_in : RateParams → Applied → ConfiguredController × Bool
-changed_in p x = (configured p x.controller, x.changed)
+changed_in p x = (configured p x.0, x.1)
 
 -- 7, 17 and 11
 unfoldable pub applied_alone : Alone ConfiguredController → ℕ → CongestionAction → Left (Alone ConfiguredController) Bool

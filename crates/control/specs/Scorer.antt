@@ -15,7 +15,6 @@ use Rattle.control.specs.declared.scorer.ScorerMetrics.{ScorerMetrics}
 use Rattle.control.specs.declared.scorer.ScorerState.{ScorerState}
 use Rattle.control.specs.declared.scorer.ScorerState.TheVariants.{Stable, Congested}
 use Rattle.control.specs.declared.scorer.SignalCounts.{SignalCounts}
-use Rattle.control.specs.declared.scorer.Ticked.{Ticked}
 
 abbrev pub state_number : ScorerState → ℕ
 state_number Stable = 0
@@ -194,8 +193,12 @@ for_window (Some start) window time = leb window (time - start)
 unfoldable pub can_increase : Phase → ℕ → ℕ → Bool
 can_increase p window time = for_window p.stable_since window time
 
+-- a scorer after a tick, and what it asks for
+abbrev pub Ticked : Type 0
+Ticked = CongestionScorer × CongestionAction
+
 abbrev pub ticked_as : CongestionAction → CongestionScorer → Ticked
-ticked_as action s = record { scorer = s; action = action }
+ticked_as action s = (s, action)
 
 -- another phase and its metrics
 abbrev pub in_phase : CongestionScorer → Phase → ScorerMetrics → CongestionScorer

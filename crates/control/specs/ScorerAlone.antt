@@ -8,11 +8,10 @@ use Rattle.config.specs.declared.alone.Alone.{Alone}
 use Rattle.config.specs.declared.alone.Left.{Left}
 use Rattle.config.specs.declared.config.CongestionConfig.{CongestionConfig}
 use Rattle.config.specs.declared.refusal.Refusal.{Refusal}
-use Rattle.control.specs.Scorer.{scorer_config_of, new_scorer, on_eagain, on_rtt_inflated, on_nack, on_loss, ticked}
+use Rattle.control.specs.Scorer.{scorer_config_of, new_scorer, on_eagain, on_rtt_inflated, on_nack, on_loss, Ticked, ticked}
 use Rattle.control.specs.declared.scorer.CongestionAction.{CongestionAction}
 use Rattle.control.specs.declared.scorer.CongestionScorer.{CongestionScorer}
 use Rattle.control.specs.declared.scorer.ScorerConfig.{ScorerConfig}
-use Rattle.control.specs.declared.scorer.Ticked.{Ticked}
 use Rattle.control.specs.declared.scorer_alone.ConfiguredScorer.{ConfiguredScorer}
 
 abbrev pub configured : ScorerConfig → CongestionScorer → ConfiguredScorer
@@ -41,7 +40,7 @@ loss_alone a = noted_by a (on_loss a.inner.scorer)
 
 -- what the scorer after a tick is, beside its settings, and what it asks for
 abbrev pub ticked_in : ScorerConfig → Ticked → ConfiguredScorer × CongestionAction
-ticked_in c t = (configured c t.scorer, t.action)
+ticked_in c t = (configured c t.0, t.1)
 
 -- 7, 17 and 11
 unfoldable pub ticked_alone : Alone ConfiguredScorer → ℕ → Left (Alone ConfiguredScorer) CongestionAction

@@ -58,7 +58,7 @@ pub data AllocatorCall : Type 0 where
 -- the allocator after a call
 abbrev pub after_call : BudgetAllocator → AllocatorCall → BudgetAllocator
 after_call a (register id class weight) = registered a id class weight
-after_call a (unregister id) = (unregistered a id).allocator
+after_call a (unregister id) = (unregistered a id).0
 after_call a (reallocate c rate) = reallocated a c rate
 
 -- the allocator after every call of a list, in turn

@@ -1,16 +1,13 @@
 // Shares of the rate: a table of up to 64 writers by class and then by id, and what each gets of a rate.
-#![tactic(auto, unfolding(config::specs::Refusal::verdict_of, crate::specs::BudgetAllocator::comes_before, crate::specs::BudgetAllocator::place_of, crate::specs::BudgetAllocator::place_for, crate::specs::BudgetAllocator::with_row, crate::specs::BudgetAllocator::without_row, crate::specs::BudgetAllocator::entered, crate::specs::BudgetAllocator::is_known, crate::specs::BudgetAllocator::without, crate::specs::BudgetAllocator::budget_of, crate::specs::BudgetAllocator::full_for, crate::specs::BudgetAllocator::weighed, crate::specs::BudgetAllocator::share_of, crate::specs::BudgetAllocator::reserve_of, crate::specs::BudgetAllocator::split_of, crate::specs::BudgetAllocator::urgent_part, crate::specs::BudgetAllocator::shares_of, crate::specs::BudgetAllocator::budget_for, crate::specs::BudgetAllocator::with_budget, crate::specs::BudgetAllocator::allotted_table, crate::specs::BudgetAllocator::registered, crate::specs::BudgetAllocator::unregistered, crate::specs::BudgetAllocator::reallocated, crate::specs::BudgetAllocator::weights_from, crate::specs::BudgetAllocator::left_from, crate::specs::BudgetAllocator::distributed_from, crate::specs::BudgetAllocatorAlone::weight_out, crate::specs::BudgetAllocatorAlone::made_alone, crate::specs::BudgetAllocatorAlone::registered_alone, crate::specs::BudgetAllocatorAlone::weighted_alone, crate::specs::BudgetAllocatorAlone::unregistered_alone, crate::specs::BudgetAllocatorAlone::reallocated_alone))]
+#![tactic(auto, unfolding(crate::specs::BudgetAllocator::comes_before, crate::specs::BudgetAllocator::place_of, crate::specs::BudgetAllocator::place_for, crate::specs::BudgetAllocator::with_row, crate::specs::BudgetAllocator::without_row, crate::specs::BudgetAllocator::entered, crate::specs::BudgetAllocator::is_known, crate::specs::BudgetAllocator::without, crate::specs::BudgetAllocator::budget_of, crate::specs::BudgetAllocator::full_for, crate::specs::BudgetAllocator::weighed, crate::specs::BudgetAllocator::share_of, crate::specs::BudgetAllocator::reserve_of, crate::specs::BudgetAllocator::split_of, crate::specs::BudgetAllocator::urgent_part, crate::specs::BudgetAllocator::shares_of, crate::specs::BudgetAllocator::budget_for, crate::specs::BudgetAllocator::with_budget, crate::specs::BudgetAllocator::allotted_table, crate::specs::BudgetAllocator::registered, crate::specs::BudgetAllocator::unregistered, crate::specs::BudgetAllocator::reallocated, crate::specs::BudgetAllocator::weights_from, crate::specs::BudgetAllocator::left_from, crate::specs::BudgetAllocator::distributed_from))]
 
 ghost use Rattle.std.specs.Prelude.{◌≡◌, ◌≤◌, ◌<◌};
-ghost use Rattle.config.specs.Refusal.{verdict_of};
-ghost use Rattle.control.specs.BudgetAllocator.{allocation_config_of, blank_writer, new_writer, comes_before, taken_of, place_of, place_for, with_row, without_row, new_table, writers_of, entered, is_known, budget_of, without, full_for, writer_at, no_weights, weighed, weights_from, weight_in, budget_in, share_of, reserve_of, split_of, urgent_part, left_from, shares_of, budget_for, with_budget, allotted_table, distributed_from, new_allocator, one, registered, unregistered, reallocated};
-ghost use Rattle.control.specs.BudgetAllocatorAlone.{weight_out, register_checks, weight_checks, allot_checks, made_alone, resumed_alone, left_by, registered_alone, weighted_alone, unregistered_alone, reallocated_alone};
+ghost use Rattle.config.specs.PerClass.{value_at};
+ghost use Rattle.control.specs.BudgetAllocator.{allocation_config_of, blank_writer, new_writer, comes_before, taken_of, place_of, place_for, with_row, without_row, new_table, writers_of, entered, is_known, budget_of, without, full_for, writer_at, no_weights, weighed, weights_from, share_of, reserve_of, split_of, urgent_part, left_from, shares_of, budget_for, with_budget, allotted_table, distributed_from, new_allocator, one, registered, unregistered, reallocated};
 
-use config::alone::Left;
 use config::config::{CongestionConfig, Priority};
-use config::ledger::Ledger;
-use config::refusal::{LARGEST_RATE, Refusal};
-use numeric::float::{is_finite_f32, max_f32, scaled_u32};
+use config::per_class::PerClass;
+use numeric::float::{max_f32, scaled_u32};
 
 // Writers that the table holds.
 const MOST_WRITERS: usize = 64;
@@ -94,8 +91,8 @@ impl WriterInfo {
     fn budget_for(&self, shares: Shares) -> u32
         ensures { result ≡ budget_for shares self.now }
     {
-        let total = shares.weights.of(self.priority);
-        share(shares.budgets.of(self.priority), self.weight, total)
+        let total = shares.weights.at(self.priority);
+        share(shares.budgets.at(self.priority), self.weight, total)
     }
 
     // The new budget; the old one is kept beside it.
@@ -117,7 +114,8 @@ fn taken(count: u16) -> usize
     usize::from(count).min(MOST_WRITERS)
 }
 
-// Writers by class and then by id, from row 0.
+// Writers by class and then by id, from row 0. Stays: an array and a count. A controller is taken and given back by value, and so is Copy, which
+// the library's vector of fixed room is not.
 #[derive(Clone, Copy, Debug, PartialEq)]
 pub struct WriterTable {
     pub(crate) rows: [WriterInfo; 64],
@@ -135,7 +133,7 @@ impl WriterTable {
     }
 
     // The rows that are taken.
-    fn writers(&self) -> &[WriterInfo]
+    pub fn writers(&self) -> &[WriterInfo]
         ensures { result.now ≡ writers_of self.now }
     {
         &self.rows[..taken(self.count)]
@@ -219,22 +217,22 @@ impl WriterTable {
         !self.is_known(id) && taken(self.count) >= MOST_WRITERS
     }
 
-    pub fn count(self) -> u16
-        ensures { result ≡ self.count }
+    pub fn count(&self) -> u16
+        ensures { result ≡ self.now.count }
     {
         self.count
     }
 
     // All rows at once, for a reader of every update.
-    pub fn rows(self) -> [WriterInfo; 64]
-        ensures { result ≡ self.rows }
+    pub fn rows(&self) -> &[WriterInfo; 64]
+        ensures { result.now ≡ self.now.rows }
     {
-        self.rows
+        &self.rows
     }
 
     // The budget of a writer in bytes per second, where it is there.
-    pub fn budget_of(self, id: u64) -> Option<u32>
-        ensures { result ≡ budget_of self id }
+    pub fn budget_of(&self, id: u64) -> Option<u32>
+        ensures { result ≡ budget_of self.now id }
     {
         self.writers()
             .get(self.place_of(id))
@@ -242,8 +240,8 @@ impl WriterTable {
     }
 
     // The writer in a row, blank where none stands.
-    pub fn writer_at(self, place: usize) -> WriterInfo
-        ensures { result ≡ writer_at self place }
+    pub fn writer_at(&self, place: usize) -> WriterInfo
+        ensures { result ≡ writer_at self.now place }
     {
         if place < taken(self.count) {
             self.rows[place]
@@ -253,12 +251,17 @@ impl WriterTable {
     }
 
     // The weights, summed by class and then by id.
-    fn weights(&self) -> ClassWeights
+    fn weights(&self) -> PerClass<f32>
         ensures { result ≡ weights_from no_weights (writers_of self.now) }
     {
-        let mut sums = ClassWeights::none();
+        let mut sums = PerClass {
+            p0: 0.0,
+            p1: 0.0,
+            p2: 0.0,
+        };
         for row in self.writers() {
-            sums = sums.plus(row);
+            let total = sums.at(row.priority) + row.weight;
+            sums.set(row.priority, total);
         }
         sums
     }
@@ -284,7 +287,7 @@ impl WriterTable {
         let p1 = split(left);
         Shares {
             weights,
-            budgets: ClassBudgets {
+            budgets: PerClass {
                 p0,
                 p1,
                 p2: left.saturating_sub(p1),
@@ -314,80 +317,11 @@ impl WriterTable {
     }
 }
 
-// The weights of each class's writers together.
-#[derive(Clone, Copy, Debug, PartialEq)]
-pub struct ClassWeights {
-    pub p0: f32,
-    pub p1: f32,
-    pub p2: f32,
-}
-
-impl ClassWeights {
-    fn none() -> ClassWeights
-        ensures { result ≡ no_weights }
-    {
-        ClassWeights {
-            p0: 0.0,
-            p1: 0.0,
-            p2: 0.0,
-        }
-    }
-
-    // One writer more.
-    fn plus(self, writer: &WriterInfo) -> ClassWeights
-        ensures { result ≡ weighed self writer.now }
-    {
-        match writer.priority {
-            Priority::P0 => ClassWeights {
-                p0: self.p0 + writer.weight,
-                ..self
-            },
-            Priority::P1 => ClassWeights {
-                p1: self.p1 + writer.weight,
-                ..self
-            },
-            Priority::P2 => ClassWeights {
-                p2: self.p2 + writer.weight,
-                ..self
-            },
-        }
-    }
-
-    fn of(self, class: Priority) -> f32
-        ensures { result ≡ weight_in self class }
-    {
-        match class {
-            Priority::P0 => self.p0,
-            Priority::P1 => self.p1,
-            Priority::P2 => self.p2,
-        }
-    }
-}
-
-// What each class has to share out, in bytes per second.
-#[derive(Clone, Copy, Debug, PartialEq, Eq)]
-pub struct ClassBudgets {
-    pub p0: u32,
-    pub p1: u32,
-    pub p2: u32,
-}
-
-impl ClassBudgets {
-    fn of(self, class: Priority) -> u32
-        ensures { result ≡ budget_in self class }
-    {
-        match class {
-            Priority::P0 => self.p0,
-            Priority::P1 => self.p1,
-            Priority::P2 => self.p2,
-        }
-    }
-}
-
+// The weights of each class's writers together, and what each class has to share out, in bytes per second.
 #[derive(Clone, Copy, Debug, PartialEq)]
 pub struct Shares {
-    pub weights: ClassWeights,
-    pub budgets: ClassBudgets,
+    pub weights: PerClass<f32>,
+    pub budgets: PerClass<u32>,
 }
 
 // A weight's part of a budget, at least the least of a writer.
@@ -426,13 +360,6 @@ pub struct BudgetAllocator {
     pub(crate) stats: AllocationStats,
 }
 
-// An allocator, and whether the writer was there.
-#[derive(Clone, Copy, Debug, PartialEq)]
-pub struct Unregistered {
-    pub allocator: BudgetAllocator,
-    pub found: bool,
-}
-
 // The steps: total, with no refusals.
 impl BudgetAllocator {
     pub fn new() -> BudgetAllocator
@@ -451,209 +378,66 @@ impl BudgetAllocator {
     }
 
     // A writer of weight 1.
-    pub fn register(self, id: u64, priority: Priority) -> BudgetAllocator
-        ensures { result ≡ registered self id priority one }
+    pub fn register(&mut self, id: u64, priority: Priority)
+        ensures { self.new ≡ registered self.old id priority one }
     {
-        self.register_weighted(id, priority, 1.0)
+        self.register_weighted(id, priority, 1.0);
     }
 
     // A known id is replaced, budget and all.
-    pub fn register_weighted(mut self, id: u64, priority: Priority, weight: f32) -> BudgetAllocator
-        ensures { result ≡ registered self id priority weight }
+    pub fn register_weighted(&mut self, id: u64, priority: Priority, weight: f32)
+        ensures { self.new ≡ registered self.old id priority weight }
     {
         self.table.remove(id);
         self.table
             .enter(WriterInfo::with_weight(id, priority, weight));
         self.stats.writers_registered = self.stats.writers_registered.saturating_add(1);
-        self
     }
 
-    pub fn unregister(mut self, id: u64) -> Unregistered
-        ensures { result ≡ unregistered self id }
+    // Whether the writer was there.
+    pub fn unregister(&mut self, id: u64) -> bool
+        ensures { (self.new, result) ≡ unregistered self.old id }
     {
         let found = self.table.is_known(id);
         if found {
             self.table.remove(id);
             self.stats.writers_unregistered = self.stats.writers_unregistered.saturating_add(1);
         }
-        Unregistered {
-            allocator: self,
-            found,
-        }
+        found
     }
 
     // A rate is shared out anew; each writer's row then tells its update.
-    pub fn reallocate(mut self, config: AllocationConfig, rate_bps: u32) -> BudgetAllocator
-        ensures { result ≡ reallocated self config rate_bps }
+    pub fn reallocate(&mut self, config: AllocationConfig, rate_bps: u32)
+        ensures { self.new ≡ reallocated self.old config rate_bps }
     {
         let shares = self.table.shares(config, rate_bps);
         self.table.allot(shares);
         self.global_budget_bps = rate_bps;
         self.stats.reallocations = self.stats.reallocations.saturating_add(1);
         self.stats.total_distributed_bps = self.table.distributed(self.stats.total_distributed_bps);
-        self
     }
 
-    pub fn is_full_for(self, id: u64) -> bool
-        ensures { result ≡ full_for self.table id }
+    pub fn is_full_for(&self, id: u64) -> bool
+        ensures { result ≡ full_for self.now.table id }
     {
         self.table.is_full_for(id)
     }
 
-    pub fn table(self) -> WriterTable
-        ensures { result ≡ self.table }
+    pub fn table(&self) -> &WriterTable
+        ensures { result.now ≡ self.now.table }
     {
-        self.table
+        &self.table
     }
 
-    pub fn global_budget(self) -> u32
-        ensures { result ≡ self.global_budget_bps }
+    pub fn global_budget(&self) -> u32
+        ensures { result ≡ self.now.global_budget_bps }
     {
         self.global_budget_bps
     }
 
-    pub fn stats(self) -> AllocationStats
-        ensures { result ≡ self.stats }
+    pub fn stats(&self) -> AllocationStats
+        ensures { result ≡ self.now.stats }
     {
         self.stats
-    }
-}
-
-// An allocator used alone, with its own call count; it takes no times. The public calls, which turn down by a reason.
-#[derive(Clone, Copy, Debug, PartialEq)]
-pub struct BudgetAllocatorAlone {
-    ledger: Ledger,
-    config: AllocationConfig,
-    allocator: BudgetAllocator,
-}
-
-// Whether a weight is no number, or above 1,000,000.
-fn weight_out(weight: f32) -> bool
-    ensures { result ≡ weight_out weight }
-{
-    !is_finite_f32(weight) || weight > 1000000.0
-}
-
-impl BudgetAllocatorAlone {
-    pub fn with_config(config: CongestionConfig) -> Result<BudgetAllocatorAlone, Refusal>
-        ensures { result ≡ made_alone config }
-    {
-        config.check()?;
-        Ok(BudgetAllocatorAlone {
-            ledger: Ledger::new(0),
-            config: AllocationConfig::from_config(config),
-            allocator: BudgetAllocator::new(),
-        })
-    }
-
-    // The same allocator with a call count that was kept elsewhere, as over a restart.
-    pub fn resumed(self, calls: u64) -> BudgetAllocatorAlone
-        ensures { result ≡ resumed_alone self calls }
-    {
-        BudgetAllocatorAlone {
-            ledger: self.ledger.resumed(calls),
-            ..self
-        }
-    }
-
-    pub fn register(self, id: u64, priority: Priority) -> Left<BudgetAllocatorAlone, ()>
-        ensures { result ≡ registered_alone self id priority }
-    {
-        let allocator = self.allocator.register(id, priority);
-        self.left_by(self.check_register(id), allocator, ())
-    }
-
-    pub fn register_weighted(
-        self,
-        id: u64,
-        priority: Priority,
-        weight: f32,
-    ) -> Left<BudgetAllocatorAlone, ()>
-        ensures { result ≡ weighted_alone self id priority weight }
-    {
-        let allocator = self.allocator.register_weighted(id, priority, weight);
-        self.left_by(self.check_weighted(id, weight), allocator, ())
-    }
-
-    // Whether the writer was there.
-    pub fn unregister(self, id: u64) -> Left<BudgetAllocatorAlone, bool>
-        ensures { result ≡ unregistered_alone self id }
-    {
-        let step = self.allocator.unregister(id);
-        self.left_by(self.ledger.check_counted(), step.allocator, step.found)
-    }
-
-    pub fn reallocate(self, rate_bps: u32) -> Left<BudgetAllocatorAlone, ()>
-        ensures { result ≡ reallocated_alone self rate_bps }
-    {
-        let allocator = self.allocator.reallocate(self.config, rate_bps);
-        self.left_by(self.check_allot(rate_bps), allocator, ())
-    }
-
-    // 17 and 14.
-    fn check_register(&self, id: u64) -> Result<(), Refusal>
-        ensures { result ≡ verdict_of (register_checks self.now id) }
-    {
-        self.ledger.check_counted()?;
-        Refusal::TableFull.when(self.allocator.table.is_full_for(id))
-    }
-
-    // 4, 17 and 14.
-    fn check_weighted(&self, id: u64, weight: f32) -> Result<(), Refusal>
-        ensures { result ≡ verdict_of (weight_checks self.now id weight) }
-    {
-        Refusal::SampleBeyond.when(weight_out(weight))?;
-        self.check_register(id)
-    }
-
-    // 6 and 17.
-    fn check_allot(&self, rate_bps: u32) -> Result<(), Refusal>
-        ensures { result ≡ verdict_of (allot_checks self.now rate_bps) }
-    {
-        Refusal::RateBeyond.when(LARGEST_RATE < rate_bps)?;
-        self.ledger.check_counted()
-    }
-
-    // What an accepted call leaves and tells, or the reason and the old state; the step is pure, so nothing is lost where the call is turned down.
-    fn left_by<T: Drop>(
-        self,
-        verdict: Result<(), Refusal>,
-        allocator: BudgetAllocator,
-        told: T,
-    ) -> Left<BudgetAllocatorAlone, T>
-        ensures { result ≡ left_by verdict self (allocator, told) }
-    {
-        match verdict {
-            Err(refusal) => Left {
-                state: self,
-                answer: Err(refusal),
-            },
-            Ok(()) => Left {
-                state: BudgetAllocatorAlone {
-                    ledger: self.ledger.counted(),
-                    allocator,
-                    ..self
-                },
-                answer: Ok(told),
-            },
-        }
-    }
-
-    pub fn ledger(self) -> Ledger
-        ensures { result ≡ self.ledger }
-    {
-        self.ledger
-    }
-
-    pub fn config(self) -> AllocationConfig
-        ensures { result ≡ self.config }
-    {
-        self.config
-    }
-
-    pub fn allocator(self) -> BudgetAllocator
-        ensures { result ≡ self.allocator }
-    {
-        self.allocator
     }
 }

@@ -1,21 +1,16 @@
 // The congestion controller: signals reach the scorer, whose ticks steer the rate, which is shared out among the writers.
-#![tactic(auto, unfolding(config::specs::Refusal::verdict_of, crate::specs::Controller::new_core, crate::specs::Controller::on_eagain, crate::specs::Controller::on_nacks, crate::specs::Controller::marked, crate::specs::Controller::on_ecn_tos, crate::specs::Controller::on_ecn_ce, crate::specs::Controller::on_inflated, crate::specs::Controller::on_window, crate::specs::Controller::steered, crate::specs::Controller::core_ticked, crate::specs::Controller::core_set, crate::specs::Controller::new_controller, crate::specs::Controller::registered_in, crate::specs::Controller::sampled, crate::specs::Controller::controller_ticked, crate::specs::Controller::controller_set, crate::specs::Controller::full_for_peer, crate::specs::ControllerAlone::made_alone, crate::specs::ControllerAlone::registered_alone, crate::specs::ControllerAlone::signalled_alone, crate::specs::ControllerAlone::eagain_alone, crate::specs::ControllerAlone::nacks_alone, crate::specs::ControllerAlone::tos_alone, crate::specs::ControllerAlone::ce_alone, crate::specs::ControllerAlone::sampled_alone, crate::specs::ControllerAlone::ticked_alone, crate::specs::ControllerAlone::rated_alone))]
+#![tactic(auto, unfolding(crate::specs::Controller::new_core, crate::specs::Controller::on_eagain, crate::specs::Controller::on_nacks, crate::specs::Controller::marked, crate::specs::Controller::on_ecn_tos, crate::specs::Controller::on_ecn_ce, crate::specs::Controller::on_inflated, crate::specs::Controller::on_window, crate::specs::Controller::steered, crate::specs::Controller::core_ticked, crate::specs::Controller::core_set, crate::specs::Controller::new_controller, crate::specs::Controller::registered_in, crate::specs::Controller::sampled, crate::specs::Controller::controller_ticked, crate::specs::Controller::controller_set, crate::specs::Controller::full_for_peer, crate::specs::Controller::tos_in))]
 
 ghost use Rattle.std.specs.Prelude.{◌≡◌};
-ghost use Rattle.config.specs.Refusal.{verdict_of};
-ghost use Rattle.control.specs.Controller.{controller_config_of, new_core, on_eagain, on_nacks, marked, on_ecn_tos, on_ecn_ce, on_inflated, on_window, steered, core_ticked, core_set, controller_of, new_controller, registered_in, sampled, controller_ticked, controller_set, full_for_peer};
-ghost use Rattle.control.specs.ControllerAlone.{made_alone, resumed_alone, register_checks, peer_checks, left_by, signalled_alone, registered_alone, eagain_alone, nacks_alone, tos_alone, ce_alone, sampled_alone, ticked_alone, rated_alone};
+ghost use Rattle.control.specs.Controller.{controller_config_of, new_core, on_eagain, on_nacks, marked, on_ecn_tos, on_ecn_ce, on_inflated, on_window, steered, core_ticked, core_set, controller_of, new_controller, registered_in, sampled, controller_ticked, controller_set, full_for_peer, with_core, tos_in};
 
-use crate::budget_allocator::{AllocationConfig, BudgetAllocator};
+use crate::budget_allocator::{AllocationConfig, BudgetAllocator, WriterTable};
 use crate::metrics::CongestionMetrics;
 use crate::rate_controller::{RateController, RateParams};
 use crate::scorer::{CongestionScorer, ScorerConfig};
-use config::alone::Left;
 use config::config::{CongestionConfig, EcnMode, Priority};
-use config::ledger::Ledger;
-use config::refusal::Refusal;
 use signals::ecn::EcnProcessor;
-use signals::rtt_estimator::{PeerRttTracker, check_sample};
+use signals::rtt_estimator::PeerRttTracker;
 
 // Nanoseconds in a NACK window: a second.
 const NACK_WINDOW: u64 = 1000000000;
@@ -66,20 +61,6 @@ pub struct ControllerCore {
     pub(crate) last_tick: u64,
 }
 
-// A core, and whether congestion is signalled.
-#[derive(Clone, Copy, Debug, PartialEq)]
-pub struct Marked {
-    pub core: ControllerCore,
-    pub signal: bool,
-}
-
-// A core, and whether its rate changed.
-#[derive(Clone, Copy, Debug, PartialEq)]
-pub struct CoreTicked {
-    pub core: ControllerCore,
-    pub changed: bool,
-}
-
 // The steps on the core: total, with no refusals. Disabled, signals and ticks leave it.
 impl ControllerCore {
     // The rate begins at its largest.
@@ -100,77 +81,69 @@ impl ControllerCore {
         }
     }
 
-    pub fn on_eagain(mut self, config: ControllerConfig) -> ControllerCore
-        ensures { result ≡ on_eagain self config }
+    pub fn on_eagain(&mut self, config: ControllerConfig)
+        ensures { self.new ≡ on_eagain self.old config }
     {
         if config.enabled {
             self.scorer = self.scorer.on_eagain();
             self.metrics = self.metrics.record_eagain();
         }
-        self
     }
 
     // NACKs wait for the end of their window.
-    pub fn on_nacks(mut self, config: ControllerConfig, count: u32) -> ControllerCore
-        ensures { result ≡ on_nacks self config count }
+    pub fn on_nacks(&mut self, config: ControllerConfig, count: u32)
+        ensures { self.new ≡ on_nacks self.old config count }
     {
         if config.enabled {
             self.nacks.count = self.nacks.count.saturating_add(count);
         }
-        self
     }
 
     // Marks that signal congestion count as an inflated round-trip time.
-    fn mark(mut self) -> ControllerCore
-        ensures { result ≡ marked self }
+    fn mark(&mut self)
+        ensures { self.new ≡ marked self.old }
     {
         self.scorer = self.scorer.on_rtt_inflated();
         self.metrics = self.metrics.record_ecn_ce();
-        self
     }
 
-    pub fn on_ecn_tos(mut self, config: ControllerConfig, tos: u8) -> Marked
-        ensures { result ≡ on_ecn_tos self config tos }
+    // Whether congestion is signalled.
+    pub fn on_ecn_tos(&mut self, config: ControllerConfig, tos: u8) -> bool
+        ensures { (self.new, result) ≡ on_ecn_tos self.old config tos }
     {
         if !config.enabled || !config.ecn {
-            return Marked {
-                core: self,
-                signal: false,
-            };
+            return false;
         }
-        let processed = self.ecn.process_tos(tos);
-        self.ecn = processed.processor;
-        Marked {
-            core: if processed.signal { self.mark() } else { self },
-            signal: processed.signal,
+        let (ecn, signal) = self.ecn.process_tos(tos);
+        self.ecn = ecn;
+        if signal {
+            self.mark();
         }
+        signal
     }
 
     // A single mark is signalled at once.
-    pub fn on_ecn_ce(mut self, config: ControllerConfig) -> ControllerCore
-        ensures { result ≡ on_ecn_ce self config }
+    pub fn on_ecn_ce(&mut self, config: ControllerConfig)
+        ensures { self.new ≡ on_ecn_ce self.old config }
     {
         if config.enabled && config.ecn {
-            self.ecn = self.ecn.process_ce().processor;
-            self.mark()
-        } else {
-            self
+            self.ecn = self.ecn.process_ce().0;
+            self.mark();
         }
     }
 
     // An inflated peer reaches the scorer at a tick.
-    fn note_inflated(mut self, inflated: bool) -> ControllerCore
-        ensures { result ≡ on_inflated self inflated }
+    fn note_inflated(&mut self, inflated: bool)
+        ensures { self.new ≡ on_inflated self.old inflated }
     {
         if inflated {
             self.scorer = self.scorer.on_rtt_inflated();
         }
-        self
     }
 
     // After a second a NACK window closes; one above its threshold reaches the scorer as a single NACK.
-    fn update_nack_rate(mut self, threshold: u32, time: u64) -> ControllerCore
-        ensures { result ≡ on_window self threshold time }
+    fn update_nack_rate(&mut self, threshold: u32, time: u64)
+        ensures { self.new ≡ on_window self.old threshold time }
     {
         let nacks = self.nacks;
         if time.saturating_sub(nacks.start) >= NACK_WINDOW {
@@ -182,91 +155,79 @@ impl ControllerCore {
                 self.scorer = self.scorer.on_nack();
             }
         }
-        self
     }
 
-    // The scorer's tick, and what it asks of the rate.
-    fn steer(mut self, config: ControllerConfig, time: u64) -> CoreTicked
-        ensures { result ≡ steered self config time }
+    // The scorer's tick, and what it asks of the rate; whether that changed.
+    fn steer(&mut self, config: ControllerConfig, time: u64) -> bool
+        ensures { (self.new, result) ≡ steered self.old config time }
     {
-        let ticked = self.scorer.tick(config.scorer, time);
-        self.scorer = ticked.scorer;
-        let applied = self
-            .rate_controller
-            .apply_action(config.rate, time, ticked.action);
-        self.rate_controller = applied.controller;
-        self.metrics = self
-            .metrics
-            .record_change(applied.changed, self.rate_controller.rate());
-        CoreTicked {
-            core: self,
-            changed: applied.changed,
-        }
+        let (scorer, action) = self.scorer.tick(config.scorer, time);
+        self.scorer = scorer;
+        let (rated, changed) = self.rate_controller.apply_action(config.rate, time, action);
+        self.rate_controller = rated;
+        self.metrics = self.metrics.record_change(changed, rated.rate());
+        changed
     }
 
-    // A tick on all but the tables; `inflated` tells whether a peer is.
-    pub fn tick(mut self, config: ControllerConfig, time: u64, inflated: bool) -> CoreTicked
-        ensures { result ≡ core_ticked self config time inflated }
+    // A tick on all but the tables, and whether the rate changed; `inflated` tells whether a peer is.
+    pub fn tick(&mut self, config: ControllerConfig, time: u64, inflated: bool) -> bool
+        ensures { (self.new, result) ≡ core_ticked self.old config time inflated }
     {
         if !config.enabled {
-            return CoreTicked {
-                core: self,
-                changed: false,
-            };
+            return false;
         }
         self.last_tick = time;
-        self.note_inflated(inflated)
-            .update_nack_rate(config.scorer.nack_threshold, time)
-            .steer(config, time)
+        self.note_inflated(inflated);
+        self.update_nack_rate(config.scorer.nack_threshold, time);
+        self.steer(config, time)
     }
 
     // The rate is held to its range; the metrics take it as given.
-    pub fn set_rate(mut self, config: ControllerConfig, time: u64, rate_bps: u32) -> ControllerCore
-        ensures { result ≡ core_set self config time rate_bps }
+    pub fn set_rate(&mut self, config: ControllerConfig, time: u64, rate_bps: u32)
+        ensures { self.new ≡ core_set self.old config time rate_bps }
     {
         self.rate_controller = self.rate_controller.set_rate(config.rate, time, rate_bps);
         self.metrics = self.metrics.record_rate(rate_bps);
-        self
     }
 
-    pub fn rate(self) -> u32
-        ensures { result ≡ self.rate_controller.current_rate }
+    pub fn rate(&self) -> u32
+        ensures { result ≡ self.now.rate_controller.current_rate }
     {
         self.rate_controller.rate()
     }
 
-    pub fn scorer(self) -> CongestionScorer
-        ensures { result ≡ self.scorer }
+    pub fn scorer(&self) -> CongestionScorer
+        ensures { result ≡ self.now.scorer }
     {
         self.scorer
     }
 
-    pub fn rate_controller(self) -> RateController
-        ensures { result ≡ self.rate_controller }
+    pub fn rate_controller(&self) -> RateController
+        ensures { result ≡ self.now.rate_controller }
     {
         self.rate_controller
     }
 
-    pub fn ecn(self) -> EcnProcessor
-        ensures { result ≡ self.ecn }
+    pub fn ecn(&self) -> EcnProcessor
+        ensures { result ≡ self.now.ecn }
     {
         self.ecn
     }
 
-    pub fn metrics(self) -> CongestionMetrics
-        ensures { result ≡ self.metrics }
+    pub fn metrics(&self) -> CongestionMetrics
+        ensures { result ≡ self.now.metrics }
     {
         self.metrics
     }
 
-    pub fn nacks(self) -> NackWindow
-        ensures { result ≡ self.nacks }
+    pub fn nacks(&self) -> NackWindow
+        ensures { result ≡ self.now.nacks }
     {
         self.nacks
     }
 
-    pub fn last_tick(self) -> u64
-        ensures { result ≡ self.last_tick }
+    pub fn last_tick(&self) -> u64
+        ensures { result ≡ self.now.last_tick }
     {
         self.last_tick
     }
@@ -280,14 +241,7 @@ pub struct CongestionController {
     pub(crate) allocator: BudgetAllocator,
 }
 
-// A controller, and whether its rate changed: each writer's row then tells its update.
-#[derive(Clone, Copy, Debug, PartialEq)]
-pub struct ControllerTicked {
-    pub controller: CongestionController,
-    pub changed: bool,
-}
-
-// The steps that touch a table: total, with no refusals.
+// The steps: total, with no refusals. Disabled, signals, samples and ticks leave it.
 impl CongestionController {
     // A controller from its parts.
     pub fn of(
@@ -315,266 +269,98 @@ impl CongestionController {
     }
 
     // Works disabled too.
-    pub fn register_writer(mut self, id: u64, priority: Priority) -> CongestionController
-        ensures { result ≡ registered_in self id priority }
+    pub fn register_writer(&mut self, id: u64, priority: Priority)
+        ensures { self.new ≡ registered_in self.old id priority }
     {
-        self.allocator = self.allocator.register(id, priority);
-        self
+        self.allocator.register(id, priority);
     }
 
-    pub fn on_rtt_sample(
-        mut self,
-        config: ControllerConfig,
-        time: u64,
-        peer_id: u32,
-        rtt_ms: f32,
-    ) -> CongestionController
-        ensures { result ≡ sampled self config time peer_id rtt_ms }
+    // The sender found no room.
+    pub fn on_eagain(&mut self, config: ControllerConfig)
+        ensures { self.new ≡ with_core self.old (on_eagain self.old.core config) }
+    {
+        self.core.on_eagain(config);
+    }
+
+    // So many NACKs came.
+    pub fn on_nacks(&mut self, config: ControllerConfig, count: u32)
+        ensures { self.new ≡ with_core self.old (on_nacks self.old.core config count) }
+    {
+        self.core.on_nacks(config, count);
+    }
+
+    // A packet's TOS byte; whether congestion is signalled.
+    pub fn on_ecn_tos(&mut self, config: ControllerConfig, tos: u8) -> bool
+        ensures { (self.new, result) ≡ tos_in self.old config tos }
+    {
+        self.core.on_ecn_tos(config, tos)
+    }
+
+    // A single mark.
+    pub fn on_ecn_ce(&mut self, config: ControllerConfig)
+        ensures { self.new ≡ with_core self.old (on_ecn_ce self.old.core config) }
+    {
+        self.core.on_ecn_ce(config);
+    }
+
+    // A peer's round-trip time in milliseconds; a full table takes no new peer.
+    pub fn on_rtt_sample(&mut self, config: ControllerConfig, time: u64, peer_id: u32, rtt_ms: f32)
+        ensures { self.new ≡ sampled self.old config time peer_id rtt_ms }
     {
         if config.enabled {
-            self.tracker = self.tracker.update(time, peer_id, rtt_ms);
+            self.tracker.update(time, peer_id, rtt_ms);
         }
-        self
     }
 
-    // A changed rate is shared out at once.
-    pub fn tick(mut self, config: ControllerConfig, time: u64) -> ControllerTicked
-        ensures { result ≡ controller_ticked self config time }
+    // A changed rate is shared out at once. Told: whether it changed; each writer's row then tells its update.
+    pub fn tick(&mut self, config: ControllerConfig, time: u64) -> bool
+        ensures { (self.new, result) ≡ controller_ticked self.old config time }
     {
-        let ticked = self.core.tick(config, time, self.tracker.any_inflated());
-        self.core = ticked.core;
-        if ticked.changed {
-            self.allocator = self
-                .allocator
+        let changed = self.core.tick(config, time, self.tracker.any_inflated());
+        if changed {
+            self.allocator
                 .reallocate(config.allocation, self.core.rate());
         }
-        ControllerTicked {
-            controller: self,
-            changed: ticked.changed,
-        }
+        changed
     }
 
     // The rate is held to its range, but the rate as given is shared out. Works disabled too.
-    pub fn set_rate(
-        mut self,
-        config: ControllerConfig,
-        time: u64,
-        rate_bps: u32,
-    ) -> CongestionController
-        ensures { result ≡ controller_set self config time rate_bps }
+    pub fn set_rate(&mut self, config: ControllerConfig, time: u64, rate_bps: u32)
+        ensures { self.new ≡ controller_set self.old config time rate_bps }
     {
-        self.core = self.core.set_rate(config, time, rate_bps);
-        self.allocator = self.allocator.reallocate(config.allocation, rate_bps);
-        self
+        self.core.set_rate(config, time, rate_bps);
+        self.allocator.reallocate(config.allocation, rate_bps);
     }
 
     // Whether a sample of a peer would find the table full; a disabled controller looks at no peer.
-    fn is_full_for_peer(self, config: ControllerConfig, peer_id: u32) -> bool
-        ensures { result ≡ full_for_peer self config peer_id }
+    pub fn is_full_for_peer(&self, config: ControllerConfig, peer_id: u32) -> bool
+        ensures { result ≡ full_for_peer self.now config peer_id }
     {
         config.enabled && self.tracker.is_full_for(peer_id)
     }
 
-    pub fn core(self) -> ControllerCore
-        ensures { result ≡ self.core }
+    pub fn core(&self) -> ControllerCore
+        ensures { result ≡ self.now.core }
     {
         self.core
     }
 
-    pub fn tracker(self) -> PeerRttTracker
-        ensures { result ≡ self.tracker }
+    pub fn tracker(&self) -> &PeerRttTracker
+        ensures { result.now ≡ self.now.tracker }
     {
-        self.tracker
+        &self.tracker
     }
 
-    pub fn allocator(self) -> BudgetAllocator
-        ensures { result ≡ self.allocator }
+    pub fn allocator(&self) -> &BudgetAllocator
+        ensures { result.now ≡ self.now.allocator }
     {
-        self.allocator
-    }
-}
-
-// A controller used alone, with its own call count and last time: the public calls, which turn down with a reason.
-#[derive(Clone, Copy, Debug, PartialEq)]
-pub struct CongestionControllerAlone {
-    ledger: Ledger,
-    config: ControllerConfig,
-    controller: CongestionController,
-}
-
-impl CongestionControllerAlone {
-    pub fn new(config: CongestionConfig, time: u64) -> Result<CongestionControllerAlone, Refusal>
-        ensures { result ≡ made_alone config time }
-    {
-        config.check_making(time)?;
-        let settings = ControllerConfig::from_config(config);
-        Ok(CongestionControllerAlone {
-            ledger: Ledger::new(time),
-            config: settings,
-            controller: CongestionController::new(settings, time),
-        })
+        &self.allocator
     }
 
-    // The same controller with a call count that was kept elsewhere, as over a restart.
-    pub fn resumed(self, calls: u64) -> CongestionControllerAlone
-        ensures { result ≡ resumed_alone self calls }
+    // The writers by class and then by id, and what each has.
+    pub fn table(&self) -> &WriterTable
+        ensures { result.now ≡ self.now.allocator.table }
     {
-        CongestionControllerAlone {
-            ledger: self.ledger.resumed(calls),
-            ..self
-        }
-    }
-
-    // Works disabled too.
-    pub fn register_writer(self, id: u64, priority: Priority) -> Left<CongestionControllerAlone, ()>
-        ensures { result ≡ registered_alone self id priority }
-    {
-        let controller = self.controller.register_writer(id, priority);
-        self.left_by(
-            self.check_register(id),
-            self.ledger.counted(),
-            controller,
-            (),
-        )
-    }
-
-    pub fn on_eagain(self) -> Left<CongestionControllerAlone, ()>
-        ensures { result ≡ eagain_alone self }
-    {
-        self.signalled(self.controller.core.on_eagain(self.config), ())
-    }
-
-    pub fn on_nacks(self, count: u32) -> Left<CongestionControllerAlone, ()>
-        ensures { result ≡ nacks_alone self count }
-    {
-        self.signalled(self.controller.core.on_nacks(self.config, count), ())
-    }
-
-    // Whether congestion is signalled.
-    pub fn on_ecn_tos(self, tos: u8) -> Left<CongestionControllerAlone, bool>
-        ensures { result ≡ tos_alone self tos }
-    {
-        let marked = self.controller.core.on_ecn_tos(self.config, tos);
-        self.signalled(marked.core, marked.signal)
-    }
-
-    pub fn on_ecn_ce(self) -> Left<CongestionControllerAlone, ()>
-        ensures { result ≡ ce_alone self }
-    {
-        self.signalled(self.controller.core.on_ecn_ce(self.config), ())
-    }
-
-    pub fn on_rtt_sample(
-        self,
-        time: u64,
-        peer_id: u32,
-        rtt_ms: f32,
-    ) -> Left<CongestionControllerAlone, ()>
-        ensures { result ≡ sampled_alone self time peer_id rtt_ms }
-    {
-        let verdict = self.check_peer(time, peer_id, rtt_ms);
-        let controller = self
-            .controller
-            .on_rtt_sample(self.config, time, peer_id, rtt_ms);
-        self.left_by(verdict, self.ledger.moved(time), controller, ())
-    }
-
-    // Whether the writers' rows tell updates, since the rate changed.
-    pub fn tick(self, time: u64) -> Left<CongestionControllerAlone, bool>
-        ensures { result ≡ ticked_alone self time }
-    {
-        let verdict = self.ledger.check_timed(time);
-        let ticked = self.controller.tick(self.config, time);
-        self.left_by(
-            verdict,
-            self.ledger.moved(time),
-            ticked.controller,
-            ticked.changed,
-        )
-    }
-
-    // The rate is held to its range, but the rate as given is shared out: the writers' rows always tell updates. Works disabled too.
-    pub fn set_rate(self, time: u64, rate_bps: u32) -> Left<CongestionControllerAlone, bool>
-        ensures { result ≡ rated_alone self time rate_bps }
-    {
-        let verdict = self.ledger.check_rate(time, rate_bps);
-        let controller = self.controller.set_rate(self.config, time, rate_bps);
-        self.left_by(verdict, self.ledger.moved(time), controller, true)
-    }
-
-    // 17 and 14.
-    fn check_register(&self, id: u64) -> Result<(), Refusal>
-        ensures { result ≡ verdict_of (register_checks self.now id) }
-    {
-        self.ledger.check_counted()?;
-        Refusal::TableFull.when(self.controller.allocator.is_full_for(id))
-    }
-
-    // 4, 7, 17, 11 and 14, for a peer's sample at a time.
-    fn check_peer(&self, time: u64, peer_id: u32, rtt_ms: f32) -> Result<(), Refusal>
-        ensures { result ≡ verdict_of (peer_checks self.now time peer_id rtt_ms) }
-    {
-        check_sample(self.ledger, time, rtt_ms)?;
-        Refusal::TableFull.when(self.controller.is_full_for_peer(self.config, peer_id))
-    }
-
-    // A signal takes no time and touches the core alone.
-    fn signalled<T: Drop>(self, core: ControllerCore, told: T) -> Left<CongestionControllerAlone, T>
-        ensures { result ≡ signalled_alone self core told }
-    {
-        let controller = CongestionController {
-            core,
-            ..self.controller
-        };
-        self.left_by(
-            self.ledger.check_counted(),
-            self.ledger.counted(),
-            controller,
-            told,
-        )
-    }
-
-    // What an accepted call leaves and tells, or the reason and the old state; the step is pure, so nothing is lost where the call is turned down.
-    fn left_by<T: Drop>(
-        self,
-        verdict: Result<(), Refusal>,
-        ledger: Ledger,
-        controller: CongestionController,
-        told: T,
-    ) -> Left<CongestionControllerAlone, T>
-        ensures { result ≡ left_by verdict self ledger (controller, told) }
-    {
-        match verdict {
-            Err(refusal) => Left {
-                state: self,
-                answer: Err(refusal),
-            },
-            Ok(()) => Left {
-                state: CongestionControllerAlone {
-                    ledger,
-                    controller,
-                    ..self
-                },
-                answer: Ok(told),
-            },
-        }
-    }
-
-    pub fn ledger(self) -> Ledger
-        ensures { result ≡ self.ledger }
-    {
-        self.ledger
-    }
-
-    pub fn config(self) -> ControllerConfig
-        ensures { result ≡ self.config }
-    {
-        self.config
-    }
-
-    pub fn controller(self) -> CongestionController
-        ensures { result ≡ self.controller }
-    {
-        self.controller
+        self.allocator.table()
     }
 }

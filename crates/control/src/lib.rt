@@ -2,7 +2,9 @@
 #![tactic(auto)]
 
 pub mod budget_allocator;
+pub mod budget_allocator_alone;
 pub mod controller;
+pub mod controller_alone;
 pub mod metrics;
 pub mod rate_controller;
 pub mod rate_controller_alone;

@@ -42,6 +42,7 @@ impl CongestionMetrics {
         }
     }
 
+    // Stays: two functions that differ in a field. One that is told the field would hide which calls write it.
     pub fn record_eagain(self) -> CongestionMetrics
         ensures { result ≡ eagain_recorded self }
     {

@@ -2,7 +2,7 @@
 #![tactic(auto, unfolding(crate::specs::RateController::decreased, crate::specs::RateController::gained_from, crate::specs::RateController::lost_from, crate::specs::RateController::softened, crate::specs::RateController::hardened, crate::specs::RateController::reached_by, crate::specs::RateController::with_params, crate::specs::RateController::changed_to, crate::specs::RateController::applied, crate::specs::RateController::rate_set))]
 
 ghost use Rattle.std.specs.Prelude.{◌≡◌};
-ghost use Rattle.control.specs.RateController.{decreased, new_metrics, gained_from, lost_from, softened, hardened, reached_by, params_of, held_rate, with_params, changed_to, applied, rate_set};
+ghost use Rattle.control.specs.RateController.{decreased, new_metrics, gained_from, lost_from, reached_by, params_of, held_rate, with_params, changed_to, applied, rate_set};
 
 use crate::scorer::CongestionAction;
 use config::config::CongestionConfig;
@@ -35,13 +35,6 @@ pub struct RateController {
     pub(crate) current_rate: u32,
     pub(crate) last_change: u64,
     pub(crate) metrics: RateControllerMetrics,
-}
-
-// A controller, and whether its rate changed.
-#[derive(Clone, Copy, Debug, PartialEq, Eq)]
-pub struct Applied {
-    pub controller: RateController,
-    pub changed: bool,
 }
 
 // The rate after a decrease: the f32 of the rate times the factor, cut to a whole number, at least `least`.
@@ -119,24 +112,6 @@ impl RateControllerMetrics {
         }
     }
 
-    fn softened(self) -> RateControllerMetrics
-        ensures { result ≡ softened self }
-    {
-        RateControllerMetrics {
-            decreases_soft: self.decreases_soft.saturating_add(1),
-            ..self
-        }
-    }
-
-    fn hardened(self) -> RateControllerMetrics
-        ensures { result ≡ hardened self }
-    {
-        RateControllerMetrics {
-            decreases_hard: self.decreases_hard.saturating_add(1),
-            ..self
-        }
-    }
-
     // A rate that was set.
     fn reached(self, rate: u32) -> RateControllerMetrics
         ensures { result ≡ reached_by self rate }
@@ -163,50 +138,55 @@ impl RateController {
         }
     }
 
-    // What the scorer asks for.
-    pub fn apply_action(self, params: RateParams, time: u64, action: CongestionAction) -> Applied
+    // What the scorer asks for. Told: whether the rate changed.
+    pub fn apply_action(
+        self,
+        params: RateParams,
+        time: u64,
+        action: CongestionAction,
+    ) -> (RateController, bool)
         ensures { result ≡ applied self params time action }
     {
         let old = self.current_rate;
         match action {
-            CongestionAction::None => Applied {
-                controller: self,
-                changed: false,
-            },
+            CongestionAction::None => (self, false),
             CongestionAction::Increase => {
                 let rate = old.saturating_add(params.ai_step).min(params.max_rate);
                 self.changed_to(time, rate, self.metrics.gained(old, rate))
             }
             CongestionAction::DecreaseSoft => {
                 let rate = decrease(old, params.md_soft, params.min_rate);
-                self.changed_to(time, rate, self.metrics.lost(old, rate).softened())
+                let mut metrics = self.metrics.lost(old, rate);
+                metrics.decreases_soft = metrics.decreases_soft.saturating_add(1);
+                self.changed_to(time, rate, metrics)
             }
             CongestionAction::DecreaseHard => {
                 let rate = decrease(old, params.md_hard, params.min_rate);
-                self.changed_to(time, rate, self.metrics.lost(old, rate).hardened())
+                let mut metrics = self.metrics.lost(old, rate);
+                metrics.decreases_hard = metrics.decreases_hard.saturating_add(1);
+                self.changed_to(time, rate, metrics)
             }
         }
     }
 
     // The new rate with its metrics, unless it is the old one.
-    fn changed_to(self, time: u64, rate: u32, metrics: RateControllerMetrics) -> Applied
+    fn changed_to(
+        self,
+        time: u64,
+        rate: u32,
+        metrics: RateControllerMetrics,
+    ) -> (RateController, bool)
         ensures { result ≡ changed_to self time rate metrics }
     {
         if rate == self.current_rate {
-            Applied {
-                controller: self,
-                changed: false,
-            }
-        } else {
-            Applied {
-                controller: RateController {
-                    current_rate: rate,
-                    last_change: time,
-                    metrics,
-                },
-                changed: true,
-            }
+            return (self, false);
         }
+        let changed = RateController {
+            current_rate: rate,
+            last_change: time,
+            metrics,
+        };
+        (changed, true)
     }
 
     // A rate that is given, held to the range.

@@ -66,14 +66,13 @@ pub fn apply_action(
 {
     let ledger = alone.ledger;
     alone.after(ledger.check_timed(time), ledger.moved(time), |before| {
-        let applied = before.controller.apply_action(before.params, time, action);
-        let controller = applied.controller;
+        let (controller, changed) = before.controller.apply_action(before.params, time, action);
         (
             ConfiguredController {
                 controller,
                 ..before
             },
-            applied.changed,
+            changed,
         )
     })
 }

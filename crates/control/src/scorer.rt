@@ -2,10 +2,10 @@
 #![tactic(auto, unfolding(crate::specs::Scorer::loss_impulse, crate::specs::Scorer::added_if, crate::specs::Scorer::impulse_of, crate::specs::Scorer::tick_measured, crate::specs::Scorer::congestion_measured, crate::specs::Scorer::recovery_measured, crate::specs::Scorer::congested_for, crate::specs::Scorer::on_eagain, crate::specs::Scorer::on_rtt_inflated, crate::specs::Scorer::on_nack, crate::specs::Scorer::on_loss, crate::specs::Scorer::in_cooldown, crate::specs::Scorer::can_increase, crate::specs::Scorer::congested_at, crate::specs::Scorer::evaluated_stable, crate::specs::Scorer::evaluated_congested, crate::specs::Scorer::evaluated, crate::specs::Scorer::ticked))]
 
 ghost use Rattle.std.specs.Prelude.{◌≡◌};
-ghost use Rattle.control.specs.Scorer.{state_number, action_number, scorer_config_of, no_pending, loss_impulse, added_if, impulse_of, tick_measured, congestion_measured, recovery_measured, congested_for, new_scorer, on_eagain, on_rtt_inflated, on_nack, on_loss, in_cooldown, can_increase, congested_at, evaluated_stable, evaluated_congested, evaluated, ticked};
+ghost use Rattle.control.specs.Scorer.{state_number, action_number, scorer_config_of, no_pending, loss_impulse, added_if, impulse_of, tick_measured, congested_for, new_scorer, on_eagain, on_rtt_inflated, on_nack, on_loss, in_cooldown, can_increase, congested_at, evaluated_stable, evaluated_congested, evaluated, ticked};
 
 use config::config::CongestionConfig;
-use numeric::float::{clamp_f32, f32_of_u8, f32_of_u32};
+use numeric::float::{clamp_f32, f32_of_u32};
 
 // Stable: the rate may grow. Congested: it was lowered, and waits for recovery.
 #[derive(Clone, Copy, Debug, PartialEq, Eq)]
@@ -68,14 +68,14 @@ impl ScorerConfig {
         ScorerConfig {
             tick_interval: config.score_tick_ms as u64 * MILLISECOND,
             decay: config.score_decay,
-            decrease_threshold: f32_of_u8(config.decrease_threshold),
-            increase_threshold: f32_of_u8(config.increase_threshold),
-            hysteresis: f32_of_u8(config.hysteresis_band),
+            decrease_threshold: f32::from(config.decrease_threshold),
+            increase_threshold: f32::from(config.increase_threshold),
+            hysteresis: f32::from(config.hysteresis_band),
             cooldown: config.cooldown_ms as u64 * MILLISECOND,
             stable_window: config.stable_window_ms as u64 * MILLISECOND,
-            eagain_impulse: f32_of_u8(config.eagain_impulse),
-            rtt_impulse: f32_of_u8(config.rtt_impulse),
-            nack_impulse: f32_of_u8(config.nack_impulse),
+            eagain_impulse: f32::from(config.eagain_impulse),
+            rtt_impulse: f32::from(config.rtt_impulse),
+            nack_impulse: f32::from(config.nack_impulse),
             nack_threshold: config.nack_rate_threshold,
             eagain_is_hard: config.eagain_is_hard,
         }
@@ -167,24 +167,6 @@ impl ScorerMetrics {
         }
     }
 
-    fn congestion(self) -> ScorerMetrics
-        ensures { result ≡ congestion_measured self }
-    {
-        ScorerMetrics {
-            congestion_events: self.congestion_events.saturating_add(1),
-            ..self
-        }
-    }
-
-    fn recovery(self) -> ScorerMetrics
-        ensures { result ≡ recovery_measured self }
-    {
-        ScorerMetrics {
-            recovery_events: self.recovery_events.saturating_add(1),
-            ..self
-        }
-    }
-
     // One tick's interval more in the congested state.
     fn congested_for(self, interval: u64) -> ScorerMetrics
         ensures { result ≡ congested_for self interval }
@@ -214,14 +196,7 @@ pub struct CongestionScorer {
     pub(crate) metrics: ScorerMetrics,
 }
 
-// A scorer after a tick, and what it asks for.
-#[derive(Clone, Copy, Debug, PartialEq)]
-pub struct Ticked {
-    pub scorer: CongestionScorer,
-    pub action: CongestionAction,
-}
-
-// The steps: total, with no refusals.
+// The steps: total, with no refusals. Stays: a function for each signal, as each counts in fields of its own.
 impl CongestionScorer {
     pub fn new(time: u64) -> CongestionScorer
         ensures { result ≡ new_scorer time }
@@ -285,8 +260,8 @@ impl CongestionScorer {
         self
     }
 
-    // The score decays and takes what is pending; the state follows.
-    pub fn tick(self, config: ScorerConfig, time: u64) -> Ticked
+    // The score decays and takes what is pending; the state follows. Told: what the scorer asks for.
+    pub fn tick(self, config: ScorerConfig, time: u64) -> (CongestionScorer, CongestionAction)
         ensures { result ≡ ticked self config time }
     {
         let impulse = self.pending.impulse(config);
@@ -301,7 +276,12 @@ impl CongestionScorer {
         scorer.evaluate_state(config, time, self.pending.eagain_count > 0)
     }
 
-    fn evaluate_state(self, config: ScorerConfig, time: u64, had_eagain: bool) -> Ticked
+    fn evaluate_state(
+        self,
+        config: ScorerConfig,
+        time: u64,
+        had_eagain: bool,
+    ) -> (CongestionScorer, CongestionAction)
         ensures { result ≡ evaluated self config time had_eagain }
     {
         match self.phase.state {
@@ -311,7 +291,12 @@ impl CongestionScorer {
     }
 
     // A score at the threshold is congestion; else the rate may grow, out of cooldown and after a stable window.
-    fn evaluate_stable(self, config: ScorerConfig, time: u64, had_eagain: bool) -> Ticked
+    fn evaluate_stable(
+        self,
+        config: ScorerConfig,
+        time: u64,
+        had_eagain: bool,
+    ) -> (CongestionScorer, CongestionAction)
         ensures { result ≡ evaluated_stable self config time had_eagain }
     {
         if self.score >= config.decrease_threshold {
@@ -323,13 +308,15 @@ impl CongestionScorer {
         } else {
             CongestionAction::None
         };
-        Ticked {
-            scorer: self,
-            action,
-        }
+        (self, action)
     }
 
-    fn enter_congested(mut self, config: ScorerConfig, time: u64, had_eagain: bool) -> Ticked
+    fn enter_congested(
+        mut self,
+        config: ScorerConfig,
+        time: u64,
+        had_eagain: bool,
+    ) -> (CongestionScorer, CongestionAction)
         ensures { result ≡ congested_at self config time had_eagain }
     {
         self.phase = Phase {
@@ -337,20 +324,21 @@ impl CongestionScorer {
             cooldown_until: Some(time.saturating_add(config.cooldown)),
             stable_since: None,
         };
-        self.metrics = self.metrics.congestion();
+        self.metrics.congestion_events = self.metrics.congestion_events.saturating_add(1);
         let action = if config.eagain_is_hard && had_eagain {
             CongestionAction::DecreaseHard
         } else {
             CongestionAction::DecreaseSoft
         };
-        Ticked {
-            scorer: self,
-            action,
-        }
+        (self, action)
     }
 
     // Recovery comes out of cooldown, at a score no more than the increase threshold and the hysteresis band.
-    fn evaluate_congested(mut self, config: ScorerConfig, time: u64) -> Ticked
+    fn evaluate_congested(
+        mut self,
+        config: ScorerConfig,
+        time: u64,
+    ) -> (CongestionScorer, CongestionAction)
         ensures { result ≡ evaluated_congested self config time }
     {
         self.metrics = self.metrics.congested_for(config.tick_interval);
@@ -358,12 +346,9 @@ impl CongestionScorer {
         if !cooling && self.score <= config.increase_threshold + config.hysteresis {
             self.phase.state = ScorerState::Stable;
             self.phase.stable_since = Some(time);
-            self.metrics = self.metrics.recovery();
+            self.metrics.recovery_events = self.metrics.recovery_events.saturating_add(1);
         }
-        Ticked {
-            scorer: self,
-            action: CongestionAction::None,
-        }
+        (self, CongestionAction::None)
     }
 
     pub fn score(self) -> f32

@@ -75,8 +75,7 @@ pub fn tick(
 {
     let ledger = alone.ledger;
     alone.after(ledger.check_timed(time), ledger.moved(time), |before| {
-        let ticked = before.scorer.tick(before.config, time);
-        let scorer = ticked.scorer;
-        (ConfiguredScorer { scorer, ..before }, ticked.action)
+        let (scorer, action) = before.scorer.tick(before.config, time);
+        (ConfiguredScorer { scorer, ..before }, action)
     })
 }

@@ -24,15 +24,11 @@ use Rattle.control.specs.declared.budget_allocator.WriterTable.{WriterTable}
 use Rattle.control.specs.declared.controller.CongestionController.{CongestionController}
 use Rattle.numeric.proofs.Choice.{by_test}
 use Rattle.numeric.specs.Search.{first}
+use Rattle.queue.specs.declared.pool.Limits.{Limits}
 use Rattle.pacing.specs.TokenBucket.{rated, resized}
-use Rattle.pacing.specs.WriterPacer.{rate_of, rate_set}
-use Rattle.pacing.specs.declared.pool.Limits.{Limits}
+use Rattle.pacing.specs.WriterPacer.{Pacer, rate_of, rate_set}
 use Rattle.pacing.specs.declared.writer_pacer.PacerConfig.{PacerConfig}
-use Rattle.pacing.specs.declared.writer_pacer.PacerCore.{PacerCore}
-use Rattle.station.specs.Station.{writer_of, writer_at, pacer_in, with_pacer, joined, budgeted, budgeted_all, allotted, register_leaves, first_pacer}
-use Rattle.station.specs.declared.roster.Roster.{Roster}
-use Rattle.station.specs.declared.roster.Writer.{Writer}
-use Rattle.station.specs.declared.station.Station.{Station}
+use Rattle.station.specs.Station.{Writer, Roster, Station, writer_of, writer_at, pacer_in, with_pacer, joined, budgeted, budgeted_all, allotted, register_leaves, first_pacer}
 use Rattle.guarantees.specs.Calls.{Call, Reply, nothing, signal, unchanged, updates, action, Outcome, rows_of, outcome, after}
 use Rattle.guarantees.specs.Theorem.{Kept, keep, Each, is_updates, SetTo, ReplyReaches, StartsLeast, Reaches}
 use Rattle.guarantees.proofs.Changes.{begins-down, Cases, by_case}
@@ -240,7 +236,7 @@ module _ (s : Station) (ok : IsKnown s) where
   known-registered time id class room =
       listed-registered s.controller.allocator s.roster (writer_of id (first_pacer s.config.pacer time)) class room ok
 
-  listed-paced : (i : ℕ) (p : PacerCore) → i < s.roster.count → Listed s.controller.allocator.table (with_pacer s.roster i p)
+  listed-paced : (i : ℕ) (p : Pacer) → i < s.roster.count → Listed s.controller.allocator.table (with_pacer s.roster i p)
   listed-paced i p lo =
       listed_ids s.controller.allocator.table s.roster (with_pacer s.roster i p) ok (seated_with s.roster i p ok.seated)
       (count_with s.roster i p) (λ j below. id_with s.roster i p j ok.seated lo)

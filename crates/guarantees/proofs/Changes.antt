@@ -1,7 +1,7 @@
 -- What a call does to a station, in six cases: it is turned down, steers the controller alone, gives new budgets, registers a writer,
 -- hands in a record, or attempts to send one. Assumes nothing.
 use Prim.Native.Nat.{ℕ, ◌^◌, ◌≤◌, ◌<◌}
-use mathlib.Core.Bool.{false}
+use mathlib.Core.Bool.{Bool, false}
 use mathlib.Core.List.{List}
 use mathlib.Core.Logic.{◌≢◌}
 use mathlib.Core.Path.{◌≡◌, refl, sym, subst, ◌∙◌}
@@ -20,18 +20,16 @@ use Rattle.config.specs.declared.refusal.Refusal.TheVariants.{RecordTooLong, Tim
 use Rattle.control.specs.BudgetAllocator.{reallocated}
 use Rattle.control.specs.Controller.{sampled, ticked_with, core_ticked, controller_ticked, controller_set}
 use Rattle.control.specs.declared.controller.CongestionController.{CongestionController}
-use Rattle.control.specs.declared.controller.ControllerTicked.{ControllerTicked}
-use Rattle.control.specs.declared.controller.CoreTicked.{CoreTicked}
+use Rattle.control.specs.declared.controller.ControllerCore.{ControllerCore}
 use Rattle.numeric.proofs.Choice.{by_test}
-use Rattle.pacing.specs.Pool.{is_short}
+use Rattle.queue.specs.Pool.{is_short}
+use Rattle.queue.specs.declared.entry.InstanceKey.{InstanceKey}
+use Rattle.queue.specs.declared.pool.Limits.{Limits}
 use Rattle.pacing.specs.WriterPacer.{action_number, hand_in_stored}
-use Rattle.pacing.specs.declared.coalescing.InstanceKey.{InstanceKey}
-use Rattle.pacing.specs.declared.pool.Limits.{Limits}
-use Rattle.pacing.specs.declared.writer_pacer.SendAction.{SendAction}
-use Rattle.pacing.specs.declared.writer_pacer.SendAction.TheVariants.{Send, Empty, RateLimited}
+use Rattle.pacing.specs.declared.send_action.SendAction.{SendAction}
+use Rattle.pacing.specs.declared.send_action.SendAction.TheVariants.{Send, Empty, RateLimited}
 use Rattle.signals.specs.RttEstimator.{any_inflated}
-use Rattle.station.specs.Station.{turned_down, left_by, answer_with, register_checks, register_leaves, registered_station, steered, eagain_station, nacks_station, tos_station, rtt_checks, rtt_station, allotted, tick_leaves, ticked_station, rated_station, limits_in, slots_needed, hand_in_checks, enqueued_in, hand_in_leaves, handed_station, pool_by, pool_handed, send_checks, attempt_in, send_leaves, sent_station}
-use Rattle.station.specs.declared.station.Station.{Station}
+use Rattle.station.specs.Station.{Station, turned_down, left_by, answer_with, register_checks, register_leaves, registered_station, steered, eagain_station, nacks_station, tos_station, rtt_checks, rtt_station, allotted, tick_leaves, ticked_station, rated_station, limits_in, slots_needed, hand_in_checks, enqueued_in, hand_in_leaves, handed_station, pool_by, pool_handed, send_checks, attempt_in, send_leaves, sent_station}
 use Rattle.guarantees.specs.Book.{Book, Sent, none, sent_in, noted}
 use Rattle.guarantees.specs.Calls.{Lent, owed, Steering, eagain, tos, nacks, rtt, tick, set_rate, Call, register, control, hand_in, send, controlled, Reply, nothing, signal, unchanged, updates, action, Outcome, outcome_of, plain, signals, rows_of, allots, rates, hands, attempts, lent_length, lent_in, outcome, written}
 use Rattle.guarantees.specs.Theorem.{is_updates, begins, paid_by}
@@ -114,11 +112,11 @@ pub record Cases (s : Station) (n : ℕ) (P : Call → Outcome → Type 0) : Typ
   pub hands :
       (time i : ℕ) (c : Priority) (key : InstanceKey) (bytes : List ℕ) (lent : Lent) → Timed s time → i < s.roster.count → length bytes ≤ 1472
       → is_short (lent_length n lent) (slots_needed (limits_in s)) ≡ false
-      → ((p : List ℕ) → written s n (hand_in time i c key bytes lent) p ≡ hand_in_stored p (limits_in s) i c (enqueued_in s i c key).kept bytes)
-      → P (hand_in time i c key bytes lent) (hands (hand_in_leaves s time i c key (length bytes) (enqueued_in s i c key)))
+      → ((p : List ℕ) → written s n (hand_in time i c key bytes lent) p ≡ hand_in_stored p (limits_in s) i c (enqueued_in s i c key (length bytes)).1 bytes)
+      → P (hand_in time i c key bytes lent) (hands (hand_in_leaves s time i (enqueued_in s i c key (length bytes))))
   pub tries :
       (time i : ℕ) (lent : Lent) → Timed s time → i < s.roster.count → is_short (lent_length n lent) (slots_needed (limits_in s)) ≡ false
-      → P (send time i lent) (outcome_of 0 (action (attempt_in s time i).action) (send_leaves s time i (attempt_in s time i)).state)
+      → P (send time i lent) (outcome_of 0 (action (attempt_in s time i).1) (send_leaves s time i (attempt_in s time i)).state)
 
 -- what a send attempt comes to is accepted
 accepts : (a : SendAction) → action_number a ≡ 0
@@ -137,14 +135,14 @@ module _ (s : Station) (n time i : ℕ) (lent : Lent) (P : Outcome → Type 0) w
   pub by_send :
       ((answer : ℕ) → answer ≢ 0 → answer ≢ 12 → P (outcome_of answer nothing s))
       → (Timed s time → i < s.roster.count → is_short (lent_length n lent) (slots_needed (limits_in s)) ≡ false
-      → P (outcome_of 0 (action (attempt_in s time i).action) tried.state))
+      → P (outcome_of 0 (action (attempt_in s time i).1) tried.state))
       → P (outcome s n (send time i lent))
   unfolding outcome sent_station
   by_send down taken =
       by_verdict (λ (r : Left Station SendAction). P (attempts r)) s checks tried
       (λ e q. down (number_of e) (no_refusal_zero e) (no_refusal_twelve e))
       (λ q h.
-      rw (accepts (attempt_in s time i).action)
+      rw (accepts (attempt_in s time i).1)
       (taken (timed_by s time checks refl refl refl h) (leb-false _ _ (h WriterUnknown)) (h BufferTooShort)))
 
 module _ (s : Station) (n : ℕ) (P : Call → Outcome → Type 0) (cases : Cases s n P) where
@@ -167,10 +165,10 @@ module _ (s : Station) (n : ℕ) (P : Call → Outcome → Type 0) (cases : Case
       → P (control time steering) (outcome_of 0 reply (steered s time c))
   steers-by time steering reply c same silent h = cases.steers (control time steering) time reply c same (quiet_control time steering) silent h
 
-  ticks : (time : ℕ) (k : CoreTicked) → Timed s time → P (control time tick) (allots (tick_leaves s time (ticked_with s.controller s.config.controller k)))
+  ticks : (time : ℕ) (k : ControllerCore × Bool) → Timed s time → P (control time tick) (allots (tick_leaves s time (ticked_with s.controller s.config.controller k)))
   ticks time k h =
-      by_test (λ (t : ControllerTicked). P (control time tick) (allots (tick_leaves s time t))) k.changed
-      (λ e. cases.allots (control time tick) time _ k.core.rate_controller.current_rate refl (quiet_control time tick) h)
+      by_test (λ (t : CongestionController × Bool). P (control time tick) (allots (tick_leaves s time t))) k.1
+      (λ e. cases.allots (control time tick) time _ k.0.rate_controller.current_rate refl (quiet_control time tick) h)
       (λ e. steers-by time tick unchanged _ refl (record { sends_none = refl; no_updates = refl }) h)
 
   -- a sample leaves the allocator

@@ -15,14 +15,13 @@ use Rattle.config.specs.Refusal.{accepted, number_of}
 use Rattle.config.specs.declared.alone.Left.{Left}
 use Rattle.config.specs.declared.config.Priority.{Priority}
 use Rattle.numeric.proofs.Choice.{by_test}
-use Rattle.pacing.specs.Pool.{is_short, put, stored}
-use Rattle.pacing.specs.Ring.{is_full, fate_number}
+use Rattle.queue.specs.Fates.{is_full, fate_number}
+use Rattle.queue.specs.Pool.{is_short, put, stored}
+use Rattle.queue.specs.declared.entry.InstanceKey.{InstanceKey}
+use Rattle.queue.specs.declared.fate.Fate.{Fate}
+use Rattle.queue.specs.declared.fate.Fate.TheVariants.{Full, Joined, PushedOut, Replaced}
 use Rattle.pacing.specs.WriterPacer.{hand_in_stored}
-use Rattle.pacing.specs.declared.coalescing.InstanceKey.{InstanceKey}
-use Rattle.pacing.specs.declared.ring.Fate.{Fate}
-use Rattle.pacing.specs.declared.ring.Fate.TheVariants.{Full, Joined, PushedOut, Replaced}
-use Rattle.station.specs.Station.{limits_in, slots_needed, left_by, hand_in_verdict, enqueued_in, hand_in_leaves, handed_station, pool_by, pool_handed, sent_station}
-use Rattle.station.specs.declared.station.Station.{Station}
+use Rattle.station.specs.Station.{Station, limits_in, slots_needed, left_by, hand_in_verdict, enqueued_in, hand_in_leaves, handed_station, pool_by, pool_handed, sent_station}
 use Rattle.guarantees.specs.Calls.{Lent, owed, instead, Call, register, control, hand_in, send, Outcome, hands, attempts, lent_length, outcome, in_place, lent_in, written, State, state_of, answered, after, run, Answer, answers}
 use Rattle.guarantees.specs.Theorem.{blank, blank_lent, blanked, SameAt, LentSame, put_at, bytes_in, PutSame, AllSame, Alike, Contents}
 
@@ -43,7 +42,7 @@ unfoldable spot : Station → ℕ → Call → Spot
 spot s n (register time id class) = nowhere
 spot s n (control time steering) = nowhere
 spot s n (hand_in time i c key bytes lent) =
-    cond (eqb (outcome s n (hand_in time i c key bytes lent)).answer accepted) (at (put_at s i c key)) nowhere
+    cond (eqb (outcome s n (hand_in time i c key bytes lent)).answer accepted) (at (put_at s i c key (length bytes))) nowhere
 spot s n (send time i lent) = nowhere
 
 -- a record that found its queue full has the number 12 and is laid nowhere
@@ -70,7 +69,8 @@ written-laid s n (register time id class) pool = refl
 written-laid s n (control time steering) pool = refl
 written-laid s n (hand_in time i c key bytes lent) pool =
     answer-laid s (hand_in_verdict s (lent_length n lent) time i (length bytes))
-    (hand_in_leaves s time i c key (length bytes) (enqueued_in s i c key)) (enqueued_in s i c key).kept.fate (put_at s i c key) bytes pool refl
+    (hand_in_leaves s time i (enqueued_in s i c key (length bytes))) (enqueued_in s i c key (length bytes)).1.fate (put_at s i c key (length bytes)) bytes
+    pool refl
 written-laid s n (send time i lent) pool = refl
 
 -- ---- what is read of a call
@@ -104,7 +104,7 @@ abbrev hand_read : Station → ℕ → ℕ → Priority → InstanceKey → ℕ 
 hand_read s time i c key pool n lent =
     record {
       outcome_is = hands (handed_station s pool time i c key n);
-      spot_is = cond (eqb (hands (handed_station s pool time i c key n)).answer accepted) (at (put_at s i c key)) nowhere;
+      spot_is = cond (eqb (hands (handed_station s pool time i c key n)).answer accepted) (at (put_at s i c key n)) nowhere;
       bytes_are = n;
       lent_is = lent;
     }

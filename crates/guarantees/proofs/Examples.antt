@@ -12,13 +12,11 @@ use Rattle.control.specs.Scorer.{added_if, impulse_of, tick_measured, congestion
 use Rattle.control.specs.Scorer as scorer
 use Rattle.numeric.specs.Float.{scaled}
 use Rattle.numeric.specs.Search.{first}
-use Rattle.pacing.specs.Coalescing.{joined, joined_all, found, inserted, exchanged, insert_noted}
-use Rattle.pacing.specs.Entries.{look, entered}
-use Rattle.pacing.specs.Entries as entries
-use Rattle.pacing.specs.Pool.{is_short}
-use Rattle.pacing.specs.Ring.{roomy, next_slot, joins, placed}
+use Rattle.queue.specs.Coalescing.{joined_hash, joined_all, inserted, popped_front}
+use Rattle.queue.specs.Pool.{is_short}
+use Rattle.queue.specs.Waiting.{roomy, joined, next_slot, joins}
 use Rattle.pacing.specs.TokenBucket.{credit, wait_of, refilled, tried, forced, told}
-use Rattle.pacing.specs.WriterPacer.{placed_in, enqueue_p0, enqueue_p1, enqueue_p2, enqueue, front_of, gone, attempt_p0, paid, waited, limited, attempt, hand_in_noted, sent_noted, send_noted, hand_in_written, handed_by, words_handed_by, attempt_by, sent_by, words_sent_by}
+use Rattle.pacing.specs.WriterPacer.{enqueue_p0, enqueue_p1, enqueue_p2, enqueue, gone, attempt_p0, paid, waited, limited, attempt, hand_in_noted, handed_in, send_noted, sent_from, sent_if}
 use Rattle.pacing.specs.WriterPacerAlone.{handed_alone, sent_alone}
 use Rattle.signals.specs.Ecn.{recorded, responded, counted, window_signals, closed, processed_tos}
 use Rattle.signals.specs.RttEstimator.{updated, inflated, place_of, tracker_updated, full_for, any_inflated}
@@ -26,5 +24,5 @@ use Rattle.signals.specs.RttEstimatorAlone.{sample_out}
 use Rattle.guarantees.specs.Examples.{table, IsSettled}
 
 pub settled : IsSettled table
-unfolding scaled of_int of_bits to_bits add sub mul div lt le to_unsigned is_nan recorded responded counted window_signals closed processed_tos updated joined joined_all credit wait_of refilled tried told verdict_of first found inserted exchanged insert_noted entries.counted look entered is_short roomy next_slot joins placed forced placed_in enqueue_p0 enqueue_p1 enqueue_p2 enqueue front_of gone attempt_p0 paid waited limited attempt hand_in_noted sent_noted send_noted hand_in_written handed_by words_handed_by attempt_by sent_by words_sent_by handed_alone sent_alone inflated place_of tracker_updated full_for any_inflated sample_out weights_from reserve_of split_of left_from shares_of allotted_table distributed_from reallocated controller.on_eagain new_core on_inflated on_window steered core_ticked new_controller sampled controller_ticked full_for_peer signalled_alone eagain_alone sampled_alone ticked_alone decreased gained_from lost_from softened hardened with_params changed_to applied change_recorded scorer.on_eagain added_if impulse_of tick_measured congestion_measured congested_for on_rtt_inflated in_cooldown can_increase congested_at evaluated_stable evaluated_congested evaluated ticked
+unfolding scaled of_int of_bits to_bits add sub mul div lt le to_unsigned is_nan recorded responded counted window_signals closed processed_tos updated joined_hash joined_all credit wait_of refilled tried told verdict_of first inserted popped_front is_short roomy joined next_slot joins forced enqueue_p0 enqueue_p1 enqueue_p2 enqueue gone attempt_p0 paid waited limited attempt hand_in_noted handed_in send_noted sent_from sent_if handed_alone sent_alone inflated place_of tracker_updated full_for any_inflated sample_out weights_from reserve_of split_of left_from shares_of allotted_table distributed_from reallocated controller.on_eagain new_core on_inflated on_window steered core_ticked new_controller sampled controller_ticked full_for_peer signalled_alone eagain_alone sampled_alone ticked_alone decreased gained_from lost_from softened hardened with_params changed_to applied change_recorded scorer.on_eagain added_if impulse_of tick_measured congestion_measured congested_for on_rtt_inflated in_cooldown can_increase congested_at evaluated_stable evaluated_congested evaluated ticked
 settled = (refl, (refl, (refl, (refl, (refl, (refl, (refl, (refl, (refl, (refl, (refl, (refl, (refl, (refl, (refl, tt)))))))))))))))

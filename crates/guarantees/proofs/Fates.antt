@@ -14,11 +14,10 @@ use Rattle.config.specs.Refusal.{accepted, queue_full}
 use Rattle.config.specs.declared.config.Priority.{Priority}
 use Rattle.config.specs.declared.config.Priority.TheVariants.{P0, P1, P2}
 use Rattle.numeric.proofs.Choice.{by_test}
-use Rattle.pacing.specs.Entries.{shaped}
-use Rattle.pacing.specs.Records.{Held}
-use Rattle.pacing.specs.declared.coalescing.InstanceKey.{InstanceKey}
-use Rattle.pacing.specs.declared.pool.Limits.{Limits}
-use Rattle.guarantees.specs.Book.{Queue, room_in, joining, replacing, place_of, keyed_in, handed_to, taken_from, Page, page_of, empty_page, with_queue, sequence_of, next_p2_after, record_of, page_handed, page_used, handed_by, page_sent, Book, with_page, Sent, none, one, page_after_send, noted}
+use Rattle.queue.specs.declared.entry.InstanceKey.{InstanceKey}
+use Rattle.queue.specs.declared.pool.Limits.{Limits}
+use Rattle.pacing.specs.Records.{Held, shaped, place_of}
+use Rattle.guarantees.specs.Book.{Queue, room_in, joining, replacing, keyed_in, handed_to, taken_from, Page, page_of, empty_page, with_queue, sequence_of, next_p2_after, record_of, page_handed, page_used, handed_by, page_sent, Book, with_page, Sent, none, one, page_after_send, noted}
 use Rattle.guarantees.specs.Calls.{Call, register, control, hand_in, send}
 use Rattle.guarantees.specs.Theorem.{weigh, numbered, fates, HasOneFate}
 
@@ -107,13 +106,13 @@ accepted_handed m P2 key q x =
 -- ---- one number
 
 -- a record counts 1 under its own number, and 0 under another
-numbered-own : (n : ℕ) (x : Held) → x.entry.sequence ≡ n → numbered n x ≡ 1
+numbered-own : (n : ℕ) (x : Held) → x.entry.entry.sequence ≡ n → numbered n x ≡ 1
 unfolding numbered
-numbered-own n x e = rw (eq-eqb x.entry.sequence n e)
+numbered-own n x e = rw (eq-eqb x.entry.entry.sequence n e)
 
-numbered_other : (n : ℕ) (x : Held) → x.entry.sequence ≢ n → numbered n x ≡ 0
+numbered_other : (n : ℕ) (x : Held) → x.entry.entry.sequence ≢ n → numbered n x ≡ 0
 unfolding numbered
-numbered_other n x e = rw (ne_eqb x.entry.sequence n e)
+numbered_other n x e = rw (ne_eqb x.entry.entry.sequence n e)
 
 -- ---- one queue
 
@@ -128,7 +127,7 @@ pub one-fate : (q : Queue) (next : ℕ) → IsBalanced q next → HasOneFate q
 one-fate q next ok =
     record {
       exactly_one = λ x m.
-          let n : ℕ = x.entry.sequence in
+          let n : ℕ = x.entry.entry.sequence in
           unfold fates in omega (arith, ok.whole (numbered n), ok.once n, weigh-member (numbered n) x q.accepted m, numbered-own n x refl);
       whole = ok.whole;
       sum =
@@ -142,19 +141,19 @@ balanced-later q n m h ok = record { whole = ok.whole; fresh = λ k l. ok.fresh 
 
 -- a record under the next number
 balanced-more :
-    (m : Limits) (c : Priority) (key : InstanceKey) (q : Queue) (x : Held) (next : ℕ) → x.entry.sequence ≡ next → IsBalanced q next
+    (m : Limits) (c : Priority) (key : InstanceKey) (q : Queue) (x : Held) (next : ℕ) → x.entry.entry.sequence ≡ next → IsBalanced q next
     → IsBalanced (handed_to m c key q x) (next + 1)
 balanced-more m c key q x next e ok =
     record {
       whole = λ w. omega (arith, more w, ok.whole w, four-handed w m c key q x);
       fresh = λ n h. omega (arith, more (numbered n), ok.fresh n (omega arith), numbered_other n x (omega arith));
-      once = λ n. go n (ℕ_discrete x.entry.sequence n);
+      once = λ n. go n (ℕ_discrete x.entry.entry.sequence n);
     }
   where
     more : (w : Held → ℕ) → weigh w (handed_to m c key q x).accepted ≡ weigh w q.accepted + w x
     more w = ap (weigh w) (accepted_handed m c key q x) ∙ weigh-more w q.accepted x
 
-    go : (n : ℕ) → Dec (x.entry.sequence ≡ n) → weigh (numbered n) (handed_to m c key q x).accepted ≤ 1
+    go : (n : ℕ) → Dec (x.entry.entry.sequence ≡ n) → weigh (numbered n) (handed_to m c key q x).accepted ≤ 1
     go n (yes d) = omega (arith, more (numbered n), ok.fresh n (omega arith), numbered-own n x d)
     go n (no d) = omega (arith, more (numbered n), ok.once n, numbered_other n x d)
 
@@ -215,7 +214,7 @@ sequence_handed m b P1 key bytes = omega arith
 sequence_handed m b P2 key bytes = omega arith
 
 -- a record is under its class's next number
-sequence_shaped : (b : Page) (c : Priority) (key : InstanceKey) (bytes : List ℕ) → (record_of b c key bytes).entry.sequence ≡ sequence_of b c
+sequence_shaped : (b : Page) (c : Priority) (key : InstanceKey) (bytes : List ℕ) → (record_of b c key bytes).entry.entry.sequence ≡ sequence_of b c
 unfolding shaped
 sequence_shaped b P0 key bytes = refl
 sequence_shaped b P1 key bytes = refl

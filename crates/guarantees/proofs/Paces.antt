@@ -17,19 +17,15 @@ use Rattle.control.specs.BudgetAllocator.{is_known}
 use Rattle.control.specs.declared.budget_allocator.WriterTable.{WriterTable}
 use Rattle.control.specs.declared.controller.CongestionController.{CongestionController}
 use Rattle.numeric.proofs.Choice.{by_test}
-use Rattle.pacing.specs.WriterPacer.{hand_in_written, send_noted}
+use Rattle.pacing.specs.WriterPacer.{Pacer}
 use Rattle.pacing.specs.declared.token_bucket.TokenBucket.{TokenBucket}
 use Rattle.pacing.specs.declared.writer_pacer.PacerConfig.{PacerConfig}
-use Rattle.pacing.specs.declared.writer_pacer.PacerCore.{PacerCore}
-use Rattle.station.specs.Station.{station_of, writer_of, writer_at, pacer_in, with_pacer, joined, budgeted, budgeted_all, steered, allotted, register_leaves, first_pacer, paced, enqueued_in, attempt_in}
-use Rattle.station.specs.declared.roster.Roster.{Roster}
-use Rattle.station.specs.declared.roster.Writer.{Writer}
-use Rattle.station.specs.declared.station.Station.{Station}
+use Rattle.station.specs.Station.{Writer, Roster, Station, station_of, writer_of, writer_at, pacer_in, with_pacer, joined, budgeted, budgeted_all, steered, allotted, register_leaves, first_pacer, paced, enqueued_in, attempt_in}
 use Rattle.guarantees.specs.Calls.{Lent, Call, register, control, hand_in, send, nothing, action, Outcome, outcome, State, answered, after, run}
 use Rattle.guarantees.specs.Theorem.{bucket_in, sets_by, sets, IsUnset, paid_as, paid_by, paid, refills_by, refills, Allowance}
 use Rattle.guarantees.proofs.Changes.{Timed, Cases, by_case, by_send}
 use Rattle.guarantees.proofs.Rosters.{Seated, pacer-same, pacer_other, count_with, seated_with, joined_new, joined_other, seated-joined, budgeted_at, seated-budgeted}
-use Rattle.guarantees.proofs.Tokens.{Paced, paced-made, paced-later, paced-rated, paced-attempt, enqueue_tokens, Covers, refill_of, covers_same, refill-same, covers_then, covers_within, attempt-allowance}
+use Rattle.guarantees.proofs.Tokens.{Paced, paced-made, paced-later, paced-rated, paced-attempt, handed_tokens, Covers, refill_of, covers_same, refill-same, covers_then, covers_within, attempt-allowance}
 
 -- ---- buckets as the settings have them
 
@@ -42,7 +38,7 @@ pub record IsTicking (s : Station) : Type 0 where
 
 -- with another pacer in place i, what holds of it there and of the others as they were holds of all
 by_seat :
-    (P : PacerCore → Type 0) (r : Roster) (i : ℕ) (p : PacerCore) (j : ℕ) → Seated r → i < r.count → (j ≡ i → P p)
+    (P : Pacer → Type 0) (r : Roster) (i : ℕ) (p : Pacer) (j : ℕ) → Seated r → i < r.count → (j ≡ i → P p)
     → (j ≢ i → P (writer_at r j).pacer) → P (writer_at (with_pacer r i p) j).pacer
 by_seat P r i p j ok lo here there = go (ℕ_discrete j i)
   where
@@ -64,20 +60,20 @@ module _ (s : Station) (ok : IsTicking s) where
   later : (time : ℕ) → Timed s time → (i : ℕ) → i < s.roster.count → Paced time (pacer_in s i).tokens
   later time h i lo = paced-later (ok.buckets i lo) h.ahead
 
-  -- another controller, roster and words
+  -- another controller and roster
   ticking-roster :
-      (time : ℕ) (x : CongestionController) (r : Roster) (words : List ℕ) → Seated r
-      → ((i : ℕ) → i < r.count → Paced time (writer_at r i).pacer.tokens) → IsTicking (station_of (moved s.ledger time) s.config x r words)
-  ticking-roster time x r words seated buckets =
+      (time : ℕ) (x : CongestionController) (r : Roster) → Seated r
+      → ((i : ℕ) → i < r.count → Paced time (writer_at r i).pacer.tokens) → IsTicking (station_of (moved s.ledger time) s.config x r)
+  ticking-roster time x r seated buckets =
       record { least = ok.least; ordered = ok.ordered; most = ok.most; seated = seated; buckets = buckets }
 
   ticking-steered : (time : ℕ) → Timed s time → (x : CongestionController) → IsTicking (steered s time x)
-  ticking-steered time h x = ticking-roster time x s.roster s.words ok.seated (later time h)
+  ticking-steered time h x = ticking-roster time x s.roster ok.seated (later time h)
 
   ticking-allotted : (time : ℕ) → Timed s time → (x : CongestionController) → IsTicking (allotted s time x)
   unfolding budgeted_all
   ticking-allotted time h x =
-      ticking-roster time x _ s.words (seated-budgeted s.config.pacer time x.allocator.table s.roster ok.seated)
+      ticking-roster time x _ (seated-budgeted s.config.pacer time x.allocator.table s.roster ok.seated)
       (λ i lo.
       subst (λ (w : Writer). Paced time w.pacer.tokens) (sym (budgeted_at s.config.pacer time x.allocator.table s.roster i ok.seated lo))
       (paced-budgeted s.config.pacer time s.ledger.last x.allocator.table (writer_at s.roster i) ok.least ok.ordered ok.most (ok.buckets i lo) h.ahead))
@@ -85,7 +81,7 @@ module _ (s : Station) (ok : IsTicking s) where
   ticking-registered : (time id : ℕ) (class : Priority) → Timed s time → s.roster.count < 4 → IsTicking (register_leaves s time id class)
   unfolding register_leaves joined
   ticking-registered time id class h lo =
-      ticking-roster time _ (joined s.roster w) s.words (seated-joined s.roster w ok.seated lo)
+      ticking-roster time _ (joined s.roster w) (seated-joined s.roster w ok.seated lo)
       (λ i below. go i below (ℕ_discrete i s.roster.count))
     where
       w : Writer
@@ -100,11 +96,11 @@ module _ (s : Station) (ok : IsTicking s) where
           subst (λ (x : Writer). Paced time x.pacer.tokens) (sym (joined_other s.roster w i ne)) (later time h i (omega arith))
 
   ticking-paced :
-      (time i : ℕ) (p : PacerCore) (words : List ℕ) → Timed s time → i < s.roster.count → Paced time p.tokens → IsTicking (paced s time i p words)
-  ticking-paced time i p words h lo own =
-      ticking-roster time s.controller (with_pacer s.roster i p) words (seated_with s.roster i p ok.seated)
+      (time i : ℕ) (p : Pacer) → Timed s time → i < s.roster.count → Paced time p.tokens → IsTicking (paced s time i p)
+  ticking-paced time i p h lo own =
+      ticking-roster time s.controller (with_pacer s.roster i p) (seated_with s.roster i p ok.seated)
       (λ j below.
-      by_seat (λ (q : PacerCore). Paced time q.tokens) s.roster i p j ok.seated lo (λ e. own)
+      by_seat (λ (q : Pacer). Paced time q.tokens) s.roster i p j ok.seated lo (λ e. own)
       (λ ne. later time h j (rw (← count_with s.roster i p) below)))
 
   pub ticking_outcome : (n : ℕ) (x : Call) → IsTicking (outcome s n x).station
@@ -118,11 +114,11 @@ module _ (s : Station) (ok : IsTicking s) where
             allots = λ y time c rate is q h. ticking-allotted time h c;
             registers = λ time id class h lo. ticking-registered time id class h lo;
             hands = λ time i c key bytes lent h lo short wide puts.
-                ticking-paced time i _ _ h lo
-                (subst (Paced time) (sym (enqueue_tokens (pacer_in s i) s.words i c key)) (later time h i lo));
+                ticking-paced time i _ h lo
+                (subst (Paced time) (sym (handed_tokens (pacer_in s i) c key (length bytes))) (later time h i lo));
             tries = λ time i lent h lo wide.
-                ticking-paced time i _ _ h lo
-                (paced-attempt s.config.pacer.enabled (pacer_in s i) s.words i time s.ledger.last (ok.buckets i lo) h.ahead);
+                ticking-paced time i _ h lo
+                (paced-attempt s.config.pacer.enabled (pacer_in s i) time s.ledger.last (ok.buckets i lo) h.ahead);
           }
 
 pub ticking_run : (s : State) → IsTicking s.station → (xs : List Call) → IsTicking (run s xs).station
@@ -162,30 +158,30 @@ module _ (i : ℕ) (s : Station) (ok : IsTicking s) where
   registered-covers time id class ne = still _ 0 (ap (λ (w : Writer). w.pacer.tokens) (sym (joined_other s.roster _ i ne))) refl
 
   handed-covers :
-      (time j : ℕ) (p : PacerCore) (words : List ℕ) → j < s.roster.count → p.tokens ≡ (pacer_in s j).tokens
-      → Covers (tokens_in s) (tokens_in (paced s time j p words)) 0 (refill_of (tokens_in s) (tokens_in (paced s time j p words)))
-  handed-covers time j p words lo same =
-      by_seat (λ (q : PacerCore). Covers (tokens_in s) q.tokens 0 (refill_of (tokens_in s) q.tokens)) s.roster j p i ok.seated lo
+      (time j : ℕ) (p : Pacer) → j < s.roster.count → p.tokens ≡ (pacer_in s j).tokens
+      → Covers (tokens_in s) (tokens_in (paced s time j p)) 0 (refill_of (tokens_in s) (tokens_in (paced s time j p)))
+  handed-covers time j p lo same =
+      by_seat (λ (q : Pacer). Covers (tokens_in s) q.tokens 0 (refill_of (tokens_in s) q.tokens)) s.roster j p i ok.seated lo
       (λ e. still p.tokens 0 (ap (λ (x : ℕ). (pacer_in s x).tokens) e ∙ sym same) refl)
       (λ ne. still (tokens_in s) 0 refl refl)
 
   tried-covers :
       (time j : ℕ) (lent : Lent) → Timed s time → j < s.roster.count
-      → let t : Station = paced s time j (attempt_in s time j).core (send_noted s.words j (attempt_in s time j).action) in
-      Covers (tokens_in s) (tokens_in t) (paid_by i (send time j lent) (action (attempt_in s time j).action)) (refill_of (tokens_in s) (tokens_in t))
+      → let t : Station = paced s time j (attempt_in s time j).0 in
+      Covers (tokens_in s) (tokens_in t) (paid_by i (send time j lent) (action (attempt_in s time j).1)) (refill_of (tokens_in s) (tokens_in t))
   unfolding paid_by
   tried-covers time j lent h lo =
       by_seat
-      (λ (q : PacerCore).
-      Covers (tokens_in s) q.tokens (paid_by i (send time j lent) (action (attempt_in s time j).action)) (refill_of (tokens_in s) q.tokens))
-      s.roster j (attempt_in s time j).core i ok.seated lo
+      (λ (q : Pacer).
+      Covers (tokens_in s) q.tokens (paid_by i (send time j lent) (action (attempt_in s time j).1)) (refill_of (tokens_in s) q.tokens))
+      s.roster j (attempt_in s time j).0 i ok.seated lo
       (λ e.
       rw (eq-eqb j i (sym e))
       (subst
       (λ (x : ℕ).
-      Covers (pacer_in s x).tokens (attempt_in s time j).core.tokens (paid_as (attempt_in s time j).action) (refill_of (pacer_in s x).tokens (attempt_in s time j).core.tokens))
+      Covers (pacer_in s x).tokens (attempt_in s time j).0.tokens (paid_as (attempt_in s time j).1) (refill_of (pacer_in s x).tokens (attempt_in s time j).0.tokens))
       (sym e)
-      (attempt-allowance s.config.pacer.enabled (pacer_in s j) s.words j time s.ledger.last (ok.buckets j lo) h.ahead)))
+      (attempt-allowance s.config.pacer.enabled (pacer_in s j) time s.ledger.last (ok.buckets j lo) h.ahead)))
       (λ ne. rw (ne_eqb j i (λ (e : j ≡ i). ne (sym e))) (still (tokens_in s) 0 refl refl))
 
   pub covers_outcome : (n : ℕ) (x : Call) → CoversIn x (outcome s n x)
@@ -200,8 +196,7 @@ module _ (i : ℕ) (s : Station) (ok : IsTicking s) where
             allots = λ y time c rate is q h e. absurd (true≢false e);
             registers = λ time id class h lo e. registered-covers time id class (eqb-false _ _ e);
             hands = λ time j c key bytes lent h lo short wide puts e.
-                handed-covers time j (enqueued_in s j c key).core (hand_in_written s.words j c (enqueued_in s j c key).kept (length bytes) key) lo
-                (enqueue_tokens (pacer_in s j) s.words j c key);
+                handed-covers time j (enqueued_in s j c key (length bytes)).0 lo (handed_tokens (pacer_in s j) c key (length bytes));
             tries = λ time j lent h lo wide e. tried-covers time j lent h lo;
           }
 
@@ -244,7 +239,7 @@ send-refill s ok time i lent taken =
     by_send s.station (length s.pool) time i lent
     (λ o. o.answer ≡ 0 → IsTicking o.station → (pacer_in o.station i).tokens.last_refill ≤ time)
     (λ answer z t e. absurd (z e))
-    (λ h lo wide e tick. (tick.buckets i (rw (count_with s.station.roster i (attempt_in s.station time i).core) lo)).before)
+    (λ h lo wide e tick. (tick.buckets i (rw (count_with s.station.roster i (attempt_in s.station time i).0) lo)).before)
     taken
     (ticking_outcome s.station ok (length s.pool) (send time i lent))
 

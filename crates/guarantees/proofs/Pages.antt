@@ -1,6 +1,6 @@
 -- A sound station matches its book after every call of a list, and each record sent is the first that its page lists; in the owed pool
 -- the bytes too. Assumes nothing.
-use Prim.Native.Nat.{ℕ, ◌+◌, ◌≤◌, ◌<◌, max}
+use Prim.Native.Nat.{ℕ, ◌+◌, ◌≤◌, ◌<◌}
 use mathlib.Core.Bool.{Bool, true, false, true≢false}
 use mathlib.Core.List.{List, [], ◌∷◌, ◌++◌, map}
 use mathlib.Core.Path.{◌≡◌, refl, sym, ap, subst, ◌∙◌}
@@ -10,19 +10,14 @@ use lib.ListN.{length, get_or, take}
 use Rattle.std.proofs.lemmas.List.{nil_from_length}
 use Rattle.config.specs.declared.config.Priority.{Priority}
 use Rattle.config.specs.declared.config.Priority.TheVariants.{P0, P1, P2}
-use Rattle.pacing.proofs.Rings.{length_contents}
-use Rattle.pacing.proofs.Windows.{window_map}
-use Rattle.pacing.specs.Entries.{entry_of, no_key}
-use Rattle.pacing.specs.Pool.{bytes_of, is_short}
-use Rattle.pacing.specs.Records.{Held, held_of, held, waiting, parts_of, Shows}
-use Rattle.pacing.specs.Window.{contents}
-use Rattle.pacing.specs.WriterPacer.{ring_of, sent_bytes}
-use Rattle.pacing.specs.declared.pool.Limits.{Limits}
-use Rattle.pacing.specs.declared.ring.Ring.{Ring}
-use Rattle.pacing.specs.declared.writer_pacer.SendAction.{SendAction}
-use Rattle.pacing.specs.declared.writer_pacer.SendAction.TheVariants.{Send, Empty, RateLimited}
-use Rattle.station.specs.Station.{pacer_in, limits_in, slots_needed, shown_bytes, attempt_in}
-use Rattle.station.specs.declared.station.Station.{Station}
+use Rattle.queue.specs.Pool.{bytes_of, is_short}
+use Rattle.queue.specs.declared.pool.Limits.{Limits}
+use Rattle.pacing.proofs.Records.{length-waiting, entries-waiting}
+use Rattle.pacing.specs.Records.{Held, nobody, waiting, parts_of, Shows}
+use Rattle.pacing.specs.WriterPacer.{sent_bytes}
+use Rattle.pacing.specs.declared.send_action.SendAction.{SendAction}
+use Rattle.pacing.specs.declared.send_action.SendAction.TheVariants.{Send, Empty, RateLimited}
+use Rattle.station.specs.Station.{Station, pacer_in, limits_in, slots_needed, shown_bytes, attempt_in}
 use Rattle.guarantees.specs.Book.{Page, Book, none, sent_in, noted}
 use Rattle.guarantees.specs.Calls.{Lent, owed, instead, Call, register, control, hand_in, send, action, Outcome, outcome, lent_length, lent_in, in_place, written, shown_by, answered, after}
 use Rattle.guarantees.specs.Theorem.{Kept, keep, keeps, Always, Each, enqueued_of, sent_of, dropped_of, coalesced_of, metrics_of, ring_in, queued, Matched, IsFated, ActionShows, ReplyShows, Sends, IsShown, HoldsBytes, FirstBytes, ShownBytes, IsOwedOrShort, IsOwed, Fates}
@@ -34,56 +29,39 @@ use Rattle.guarantees.proofs.Tallies.{IsTallied}
 
 -- ---- what a match says
 
--- a page's list is the ring's, in order
+-- a page's list is the queue's, in order
 module _ (m : Limits) (g : List ℕ) (s : Station) (b : Book) (ok : IsSound m g s b) (i : ℕ) (lo : i < s.roster.count) where
   in_order : (c : Priority) → queued s i c ≡ map (λ (x : Held). x.entry) ((b i).queues c).waiting
-  unfolding queued contents waiting held
-  in_order c =
-      let r : Ring = ring_of (pacer_in s i).queues c in
-      sym (window_map (λ (x : Held). x.entry) (held m i c s.words g) (max 1 r.limit) r.head r.count)
-      ∙ ap (map (λ (x : Held). x.entry)) ((ok.pages i lo).lists c)
+  in_order c = sym (entries-waiting m i (pacer_in s i) g c) ∙ ap (map (λ (x : Held). x.entry)) ((ok.pages i lo).lists c)
 
-  tally : IsTallied s.words i (b i)
+  tally : IsTallied (pacer_in s i) (b i)
   tally = ok.tallies i lo
 
-  accepted_is : (c : Priority) → enqueued_of (metrics_of s i) c ≡ length ((b i).queues c).accepted
-  accepted_is P0 = tally.accepted P0
-  accepted_is P1 = tally.accepted P1
-  accepted_is P2 = tally.accepted P2
-
-  sent_is : (c : Priority) → sent_of (metrics_of s i) c ≡ length ((b i).queues c).sent
-  sent_is P0 = tally.sent P0
-  sent_is P1 = tally.sent P1
-  sent_is P2 = tally.sent P2
-
-  pushed_out_is : (c : Priority) → dropped_of (metrics_of s i) c ≡ length ((b i).queues c).pushed_out
-  pushed_out_is P0 = sym tally.pushed_p0
-  pushed_out_is P1 = tally.pushed_p1
-  pushed_out_is P2 = tally.pushed_p2
-
-  replaced_is : (c : Priority) → coalesced_of (metrics_of s i) c ≡ length ((b i).queues c).replaced
-  replaced_is P0 = sym tally.replaced_p0
-  replaced_is P1 = sym tally.replaced_p1
-  replaced_is P2 = tally.replaced_p2
-
   waiting_is : (c : Priority) → ring_in s i c ≡ length ((b i).queues c).waiting
-  waiting_is c = count_is m i (parts_of (pacer_in s i) s.words g) (b i) (ok.pages i lo) no_key c
+  waiting_is c = count_is m i (parts_of (pacer_in s i) g) (b i) (ok.pages i lo) c
 
   own_sum :
       (c : Priority)
       → enqueued_of (metrics_of s i) c ≡ sent_of (metrics_of s i) c + dropped_of (metrics_of s i) c + coalesced_of (metrics_of s i) c + ring_in s i c
   own_sum c =
-      omega
-      (arith, (one-fate ((b i).queues c) _ ((ok.balanced i).balanced c)).sum, accepted_is c, sent_is c, pushed_out_is c, replaced_is c, waiting_is c)
+      omega (
+        arith,
+        (one-fate ((b i).queues c) _ ((ok.balanced i).balanced c)).sum,
+        tally.accepted c,
+        tally.sent c,
+        tally.pushed_out c,
+        tally.replaced c,
+        waiting_is c,
+      )
 
   matched : (c : Priority) → Matched s i c ((b i).queues c)
   matched c =
       record {
         in_order = in_order c;
-        accepted_is = accepted_is c;
-        sent_is = sent_is c;
-        pushed_out_is = pushed_out_is c;
-        replaced_is = replaced_is c;
+        accepted_is = tally.accepted c;
+        sent_is = tally.sent c;
+        pushed_out_is = tally.pushed_out c;
+        replaced_is = tally.replaced c;
         waiting_is = waiting_is c;
         own_sum = own_sum c;
       }
@@ -94,7 +72,7 @@ fated m g k ok =
       one-fate = λ i c. one-fate ((k.book i).queues c) _ ((ok.balanced i).balanced c);
       matched = λ i lo. matched m g k.state.station k.book ok i lo;
       unregistered = ok.unregistered;
-      exact = λ i n lo lt ne. omega (arith, ok.few i n (omega (arith, ok.seated.fits)) lt ne, ok.counted);
+      exact = λ i n lo lt ne. omega (arith, ok.few i n lo lt ne, ok.counted);
     }
 
 -- ---- what is shown
@@ -103,9 +81,6 @@ fated m g k ok =
 pub first_of : (xs : List Held) (d : Held) → 0 < length xs → take 1 xs ≡ get_or xs 0 d ∷ []
 first_of [] d h = absurd (omega arith)
 first_of (x ∷ xs) d h = refl
-
-abbrev nobody : Held
-nobody = held_of (entry_of 0 0 no_key) []
 
 module _ (m : Limits) (i : ℕ) (g : List ℕ) (p : Page) where
   action-shows : (a : SendAction) → Shows m i g (page_view p) a → ActionShows p a
@@ -143,8 +118,8 @@ module _ (m : Limits) (g : List ℕ) (k : Kept) (ok : IsSound m g k.state.statio
   abbrev s : Station
   s = k.state.station
 
-  shows : (time i : ℕ) → i < s.roster.count → Shows m i g (page_view (k.book i)) (attempt_in s time i).action
-  shows time i lo = (tries_out m i (parts_of (pacer_in s i) s.words g) (k.book i) s.config.pacer.enabled time (ok.pages i lo)).0
+  shows : (time i : ℕ) → i < s.roster.count → Shows m i g (page_view (k.book i)) (attempt_in s time i).1
+  shows time i lo = (tries_out m i (parts_of (pacer_in s i) g) (k.book i) s.config.pacer.enabled time (ok.pages i lo)).0
 
   pub shown : (x : Call) → IsShown k x
   unfolding IsShown
@@ -153,7 +128,7 @@ module _ (m : Limits) (g : List ℕ) (k : Kept) (ok : IsSound m g k.state.statio
       (λ time i lent e.
       subst (λ (y : Call). ReplyShows (k.book i) (answered k.state y).reply) (sym e)
       (by_send s (length k.state.pool) time i lent (λ o. ReplyShows (k.book i) o.reply) (λ answer z t. tt)
-      (λ h lo wide. action-shows m i g (k.book i) (attempt_in s time i).action (shows time i lo))))
+      (λ h lo wide. action-shows m i g (k.book i) (attempt_in s time i).1 (shows time i lo))))
 
   -- where the pool that a call is lent is g
   pub shown_bytes_lem : (x : Call) → in_place s (lent_in x) k.state.pool ≡ g → ShownBytes k x
@@ -165,7 +140,7 @@ module _ (m : Limits) (g : List ℕ) (k : Kept) (ok : IsSound m g k.state.statio
       (by_send s (length k.state.pool) time i lent
       (λ o. FirstBytes (k.book i) (shown_by s i o.reply (in_place s lent k.state.pool)) o.reply) (λ answer z t. tt)
       (λ h lo wide.
-      let a : SendAction = (attempt_in s time i).action in
+      let a : SendAction = (attempt_in s time i).1 in
       subst (λ (pool : List ℕ). FirstBytes (k.book i) (shown_bytes s i a pool) (action a))
       (sym (subst (λ (y : Call). in_place s (lent_in y) k.state.pool ≡ g) e is))
       (subst (λ (l : Limits). FirstBytes (k.book i) (sent_bytes l i a g) (action a)) (sym ok.same_limits)
@@ -175,7 +150,7 @@ pub holds_bytes : (m : Limits) (k : Kept) → IsSound m k.state.pool k.state.sta
 holds_bytes m k ok i lo c =
     subst
     (λ (l : Limits).
-    waiting l i c (pacer_in k.state.station i) k.state.station.words k.state.pool ≡ ((k.book i).queues c).waiting)
+    waiting l i c (pacer_in k.state.station i) k.state.pool ≡ ((k.book i).queues c).waiting)
     (sym ok.same_limits) ((ok.pages i lo).lists c)
 
 -- ---- lists
@@ -187,7 +162,9 @@ module _ (m : Limits) (I : Kept → List Call → Type 0) (step : (k : Kept) (x 
   always P holds k [] i = holds k [] i
   always P holds k (x ∷ xs) i = (holds k (x ∷ xs) i, always P holds (keep m k x) xs (step k x xs i))
 
-  pub each : (P : Kept → Call → Type 0) → ((k : Kept) (x : Call) (xs : List Call) → I k (x ∷ xs) → P k x) → (k : Kept) (xs : List Call) → I k xs → Each m P k xs
+  pub each :
+      (P : Kept → Call → Type 0) → ((k : Kept) (x : Call) (xs : List Call) → I k (x ∷ xs) → P k x) → (k : Kept) (xs : List Call) → I k xs
+      → Each m P k xs
   unfolding Each
   each P holds k [] i = tt
   each P holds k (x ∷ xs) i = (holds k x xs i, each P holds (keep m k x) xs (step k x xs i))
@@ -311,14 +288,15 @@ module _ (m : Limits) (k : Kept) (x : Call) (xs : List Call) (ok : IsShortPool m
       subst (BytesBy k i) (sym e)
       (by_send k.state.station (length k.state.pool) time i lent
       (λ o. FirstBytes (k.book i) (shown_by k.state.station i o.reply (in_place k.state.station lent k.state.pool)) o.reply) (λ answer z t. tt)
-      (λ h lo wide. absurd (true≢false (sym (subst (λ (y : Call). is_short (lent_length (length k.state.pool) (lent_in y)) (slots_needed (limits_in k.state.station)) ≡ true) e too_short) ∙ wide)))))
+      (λ h lo wide.
+      let short = subst (λ (y : Call). is_short (lent_length (length k.state.pool) (lent_in y)) (slots_needed (limits_in k.state.station)) ≡ true) e too_short in
+      absurd (true≢false (sym short ∙ wide)))))
 
 short_holds : (m : Limits) (k : Kept) (xs : List Call) → IsShortPool m k xs → HoldsBytes k
-unfolding waiting
 short_holds m k xs ok i lo c =
     nil_from_length _
-    (length_contents (held (limits_in s) i c s.words k.state.pool) (ring_of (pacer_in s i).queues c)
-    ∙ count_is m i (parts_of (pacer_in s i) s.words ok.some.pool) (k.book i) (ok.some.sound.pages i lo) no_key c
+    (length-waiting (limits_in s) i (pacer_in s i) k.state.pool c
+    ∙ count_is m i (parts_of (pacer_in s i) ok.some.pool) (k.book i) (ok.some.sound.pages i lo) c
     ∙ ap length (ok.idle i c))
     ∙ sym (ok.idle i c)
   where
@@ -342,7 +320,9 @@ fates m k xs ok idle owns =
       bytes_held = λ lent.
           either (Always m HoldsBytes k xs) (is_short (length k.state.pool) (slots_needed m))
           (λ e. always m (IsShortPool m) (short-step m) HoldsBytes (short_holds m) k xs (record { some = ok; short = e; idle = idle; lent = lent }))
-          (λ e. always m (OwedPool m) (owed-step m) HoldsBytes (λ j ys i. holds_bytes m j i.sound) k xs (record { sound = owns (ltb-false _ _ e); lent = lent }));
+          (λ e.
+          always m (OwedPool m) (owed-step m) HoldsBytes (λ j ys i. holds_bytes m j i.sound) k xs
+          (record { sound = owns (ltb-false _ _ e); lent = lent }));
       bytes_shown = λ lent.
           either (Each m ShownBytes k xs) (is_short (length k.state.pool) (slots_needed m))
           (λ e. each m (IsShortPool m) (short-step m) ShownBytes (short-shown m) k xs (record { some = ok; short = e; idle = idle; lent = lent }))

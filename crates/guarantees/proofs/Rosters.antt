@@ -11,11 +11,9 @@ use Rattle.control.proofs.Writers.{length_mapped}
 use Rattle.control.specs.BudgetAllocator.{is_known}
 use Rattle.control.specs.declared.budget_allocator.WriterTable.{WriterTable}
 use Rattle.numeric.proofs.Choice.{by_test}
+use Rattle.pacing.specs.WriterPacer.{Pacer}
 use Rattle.pacing.specs.declared.writer_pacer.PacerConfig.{PacerConfig}
-use Rattle.pacing.specs.declared.writer_pacer.PacerCore.{PacerCore}
-use Rattle.station.specs.Station.{writer_of, no_writer, writer_at, taken_of, joined, with_pacer, budgeted, budgeted_all}
-use Rattle.station.specs.declared.roster.Roster.{Roster}
-use Rattle.station.specs.declared.roster.Writer.{Writer}
+use Rattle.station.specs.Station.{Writer, Roster, writer_of, no_writer, writer_at, taken_of, joined, with_pacer, budgeted, budgeted_all}
 
 -- four places, and no more writers than places
 pub record Seated (r : Roster) : Type 0 where
@@ -24,17 +22,17 @@ pub record Seated (r : Roster) : Type 0 where
 
 -- ---- another pacer in a place
 
-pub pacer-same : (r : Roster) (i : ℕ) (p : PacerCore) → Seated r → i < r.count → (writer_at (with_pacer r i p) i).pacer ≡ p
+pub pacer-same : (r : Roster) (i : ℕ) (p : Pacer) → Seated r → i < r.count → (writer_at (with_pacer r i p) i).pacer ≡ p
 unfolding with_pacer
 pacer-same r i p ok h =
     ap (λ (w : Writer). w.pacer) (get_or-set_same r.writers i (writer_of (writer_at r i).id p) no_writer (omega (arith, ok.places, ok.fits)))
 
-pub pacer_other : (r : Roster) (i : ℕ) (p : PacerCore) (j : ℕ) → j ≢ i → writer_at (with_pacer r i p) j ≡ writer_at r j
+pub pacer_other : (r : Roster) (i : ℕ) (p : Pacer) (j : ℕ) → j ≢ i → writer_at (with_pacer r i p) j ≡ writer_at r j
 unfolding with_pacer
 pacer_other r i p j ne = get_or-set_other r.writers i j (writer_of (writer_at r i).id p) no_writer ne
 
 -- its writer keeps the id
-pub id_with : (r : Roster) (i : ℕ) (p : PacerCore) (j : ℕ) → Seated r → i < r.count → (writer_at (with_pacer r i p) j).id ≡ (writer_at r j).id
+pub id_with : (r : Roster) (i : ℕ) (p : Pacer) (j : ℕ) → Seated r → i < r.count → (writer_at (with_pacer r i p) j).id ≡ (writer_at r j).id
 unfolding with_pacer
 id_with r i p j ok h = go (ℕ_discrete j i)
   where
@@ -44,11 +42,11 @@ id_with r i p j ok h = go (ℕ_discrete j i)
         (ap (λ (w : Writer). w.id) (get_or-set_same r.writers i (writer_of (writer_at r i).id p) no_writer (omega (arith, ok.places, ok.fits))))
     go (no ne) = ap (λ (w : Writer). w.id) (pacer_other r i p j ne)
 
-pub count_with : (r : Roster) (i : ℕ) (p : PacerCore) → (with_pacer r i p).count ≡ r.count
+pub count_with : (r : Roster) (i : ℕ) (p : Pacer) → (with_pacer r i p).count ≡ r.count
 unfolding with_pacer
 count_with r i p = refl
 
-pub seated_with : (r : Roster) (i : ℕ) (p : PacerCore) → Seated r → Seated (with_pacer r i p)
+pub seated_with : (r : Roster) (i : ℕ) (p : Pacer) → Seated r → Seated (with_pacer r i p)
 unfolding with_pacer
 seated_with r i p ok = record { places = length-set r.writers i _ ∙ ok.places; fits = ok.fits }
 

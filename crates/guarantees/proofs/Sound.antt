@@ -1,8 +1,8 @@
 -- What holds of a station and its book after every list of calls, and that every call keeps it: the queues hold what the pages list, the
 -- counts are the lists' lengths, and no counter has come near its largest value. Assumes nothing.
-use Prim.Native.Nat.{ℕ, suc, ◌+◌, ◌*◌, ◌^◌, ◌≤◌, ◌<◌}
-use mathlib.Core.Bool.{false, cond}
-use mathlib.Core.List.{List, []}
+use Prim.Native.Nat.{ℕ, zero, suc, ◌+◌, ◌*◌, ◌^◌, ◌≤◌, ◌<◌}
+use mathlib.Core.Bool.{Bool, false, cond}
+use mathlib.Core.List.{List}
 use mathlib.Core.Logic.{◌≢◌}
 use mathlib.Core.Path.{◌≡◌, refl, sym, ap, subst, ◌∙◌}
 use native.Mathlib.Decide.{ℕ_discrete}
@@ -10,7 +10,7 @@ use native.Mathlib.Nat.{mul-le-mul_right, suc-mul}
 use native.Mathlib.Omega.{arith}
 use borrow.Author.Tests.{eq-eqb, ne_eqb}
 use lib.Dec.{eqb}
-use lib.ListN.{length, get_or}
+use lib.ListN.{length, get_or, replicate}
 use Rattle.config.specs.Config.{class_number}
 use Rattle.config.specs.Ledger.{moved}
 use Rattle.config.specs.declared.config.Priority.{Priority}
@@ -19,58 +19,48 @@ use Rattle.control.specs.BudgetAllocator.{is_known}
 use Rattle.control.specs.declared.budget_allocator.WriterTable.{WriterTable}
 use Rattle.control.specs.declared.controller.CongestionController.{CongestionController}
 use Rattle.numeric.proofs.Choice.{by_test}
-use Rattle.pacing.proofs.Counts.{count_handed, count_handed_other, count_sent, count_sent_other, length_handed, length-sent}
-use Rattle.pacing.proofs.Records.{Matches, IsStored, IsLimited, stays, made-matches}
-use Rattle.pacing.proofs.Rings.{contents_first, length_contents, slot-below}
-use Rattle.pacing.proofs.Slots.{noted-none, noted-send, class-below}
-use Rattle.pacing.specs.Counts.{only_at, fate_adds, hand_adds, send_adds}
-use Rattle.pacing.specs.Entries.{pacer_at, entry_of, no_key, most_of}
-use Rattle.pacing.specs.Pool.{bytes_of, slots_of}
-use Rattle.pacing.specs.Records.{Held, held_of, held, waiting, limit_in, Parts, parts_of, Shows}
-use Rattle.pacing.specs.Ring.{slot_at, is_full, fate_number}
-use Rattle.pacing.specs.WriterPacer.{ring_of, made, rate_set, count_in, hand_in_stored, hand_in_written, send_noted}
-use Rattle.pacing.specs.declared.coalescing.InstanceKey.{InstanceKey}
-use Rattle.pacing.specs.declared.pool.Limits.{Limits}
-use Rattle.pacing.specs.declared.ring.Fate.{Fate}
-use Rattle.pacing.specs.declared.ring.Fate.TheVariants.{Full, Joined, PushedOut, Replaced}
-use Rattle.pacing.specs.declared.ring.Ring.{Ring}
-use Rattle.pacing.specs.declared.writer_pacer.Attempt.{Attempt}
-use Rattle.pacing.specs.declared.writer_pacer.Enqueued.{Enqueued}
+use Rattle.queue.specs.Fates.{is_full, fate_number}
+use Rattle.queue.specs.Pool.{bytes_of, slots_of, limit_in}
+use Rattle.queue.specs.declared.entry.InstanceKey.{InstanceKey}
+use Rattle.queue.specs.declared.fate.Fate.{Fate}
+use Rattle.queue.specs.declared.fate.Fate.TheVariants.{Full, Joined, PushedOut, Replaced}
+use Rattle.queue.specs.declared.fate.Kept.{Kept}
+use Rattle.queue.specs.declared.pool.Limits.{Limits}
+use Rattle.pacing.proofs.Counts.{count_handed, count_sent}
+use Rattle.pacing.proofs.Records.{Matches, get_or-waiting, short-at, length-handed, matches_other, stays, made-matches}
+use Rattle.pacing.proofs.RecordsLimits.{IsLimited, keeps}
+use Rattle.pacing.specs.Counts.{count_in, only_at, fate_adds, hand_adds, send_adds}
+use Rattle.pacing.specs.Records.{Held, nobody, held, Parts, parts_of, Shows}
+use Rattle.pacing.specs.WriterPacer.{Pacer, with_tokens, waiting_in, made, rate_set, hand_in_stored, sent_if}
+use Rattle.pacing.specs.declared.send_action.SendAction.{SendAction}
+use Rattle.pacing.specs.declared.send_action.SendAction.TheVariants.{Send, Empty, RateLimited}
+use Rattle.pacing.specs.declared.token_bucket.TokenBucket.{TokenBucket}
 use Rattle.pacing.specs.declared.writer_pacer.PacerConfig.{PacerConfig}
-use Rattle.pacing.specs.declared.writer_pacer.SendAction.{SendAction}
-use Rattle.pacing.specs.declared.writer_pacer.SendAction.TheVariants.{Send, Empty, RateLimited}
-use Rattle.station.specs.Station.{station_of, writer_of, writer_at, pacer_in, limits_in, slots_needed, joined, budgeted, budgeted_all, steered, allotted, register_leaves, first_pacer, paced, enqueued_in, attempt_in}
-use Rattle.station.specs.declared.roster.Roster.{Roster}
-use Rattle.station.specs.declared.roster.Writer.{Writer}
-use Rattle.station.specs.declared.station.Station.{Station}
+use Rattle.station.specs.Station.{Station, Roster, Writer, station_of, writer_of, writer_at, pacer_in, limits_in, slots_needed, joined, budgeted, steered, allotted, register_leaves, first_pacer, paced, enqueued_in, attempt_in}
 use Rattle.guarantees.specs.Book.{Page, Book, empty_page, with_page, Sent, none, one, sent_as, sent_in, handed_by, page_after_send, noted}
 use Rattle.guarantees.specs.Calls.{Lent, Call, register, control, hand_in, send, Outcome, outcome, written}
 use Rattle.guarantees.proofs.Changes.{Timed, Cases, by_case}
 use Rattle.guarantees.proofs.Fates.{IsBalancedPage, balanced-noted}
-use Rattle.guarantees.proofs.HandIns.{page_view, decided, hands_in, TriedBy, tries_out, length_pool, stored_handed, matches_handed, stored-noted, matches-noted}
-use Rattle.guarantees.proofs.Rosters.{Seated, pacer-same, pacer_other, count_with, seated_with, joined_new, joined_other, seated-joined, budgeted_at, seated-budgeted}
-use Rattle.guarantees.proofs.Tallies.{IsTallied, fate_of, handed_next, handed_tallied, Waits, sent_tallied}
+use Rattle.guarantees.proofs.HandIns.{page_view, count_is, least, fate_is, hands_in, TriedBy, tries_out}
+use Rattle.guarantees.proofs.Rosters.{Seated, pacer-same, pacer_other, count_with, seated_with, joined_new, joined_other, seated-joined, budgeted_at, count_budgeted, seated-budgeted}
+use Rattle.guarantees.proofs.Tallies.{IsTallied, fate_of, handed_next, handed_tallied, Waits, sent_tallied, tallied_same, tallied_new}
 
 -- `g` is a pool that was lent to every call: the owed one, or any that is long enough where others write in it
 pub record IsSound (m : Limits) (g : List ℕ) (s : Station) (b : Book) : Type 0 where
   pub seated : Seated s.roster
-  pub long : length s.words ≡ 7220
   pub same_limits : limits_in s ≡ m
-  pub limited : IsLimited m
+  pub limited : (time rate : ℕ) → IsLimited m (made time m rate)
   pub wide : bytes_of (slots_needed m) ≤ length g
   -- at most 2^40 accepted calls, each of which uses up one number of a pacer at most
   pub counted : s.ledger.calls ≤ 2 ^ 40
   pub used : (i : ℕ) → (b i).next ≤ s.ledger.calls
   pub balanced : (i : ℕ) → IsBalancedPage (b i)
-  -- registered pacers
-  pub pages : (i : ℕ) → i < s.roster.count → Matches m i (parts_of (pacer_in s i) s.words g) (page_view (b i))
-  pub tallies : (i : ℕ) → i < s.roster.count → IsTallied s.words i (b i)
+  -- registered pacers; a call adds 1,474 to a count at most, a record's bytes and two more
+  pub pages : (i : ℕ) → i < s.roster.count → Matches m i (parts_of (pacer_in s i) g) (page_view (b i))
+  pub tallies : (i : ℕ) → i < s.roster.count → IsTallied (pacer_in s i) (b i)
+  pub few : (i k : ℕ) → i < s.roster.count → k < 13 → k ≢ 2 → count_in (pacer_in s i) k ≤ s.ledger.calls * 1474
   -- places that nobody has yet
   pub unregistered : (i : ℕ) → s.roster.count ≤ i → b i ≡ empty_page
-  pub storage : (i : ℕ) → i < 4 → IsStored m i s.words g
-  pub noughts : (i : ℕ) → s.roster.count ≤ i → i < 4 → (k : ℕ) → k < 13 → count_in s.words i k ≡ 0
-  -- a call adds 1,474 to a count at most, a record's bytes and two more
-  pub few : (i k : ℕ) → i < 4 → k < 13 → k ≢ 2 → count_in s.words i k ≤ s.ledger.calls * 1474
 
 -- ---- the book's pages
 
@@ -145,22 +135,15 @@ send-most (Send c slot sequence n forced) h k =
 send-most Empty h k = omega arith
 send-most (RateLimited wait) h k = omega (arith, only_most 11 1 k)
 
--- the first of a list that matches its ring is no longer than a slot
+-- the first of a list that matches its queue is no longer than a slot
 first_short :
     (m : Limits) (i : ℕ) (s : Parts) (p : Page) → Matches m i s (page_view p) → (c : Priority) → 0 < length (p.queues c).waiting
-    → (get_or (p.queues c).waiting 0 (held_of (entry_of 0 0 no_key) [])).entry.length ≤ 1472
-unfolding waiting held
+    → (get_or (p.queues c).waiting 0 nobody).entry.entry.length ≤ 1472
+unfolding held
 first_short m i s p ok c some =
-    subst (λ (x : Held). x.entry.length ≤ 1472) (sym first) (ok.storage.short c (slot_at r 0) (subst (λ (x : ℕ). slot_at r 0 < x) (ok.limits c) (slot-below r 0 (ok.rings c))))
-  where
-    r : Ring
-    r = ring_of s.core.queues c
-
-    first : get_or (p.queues c).waiting 0 (held_of (entry_of 0 0 no_key) []) ≡ held m i c s.words s.pool (slot_at r 0)
-    first =
-        ap (λ (xs : List Held). get_or xs 0 (held_of (entry_of 0 0 no_key) []))
-        (sym (ok.lists c)
-        ∙ contents_first (held m i c s.words s.pool) r (subst (λ (x : ℕ). 0 < x) (sym (ap length (ok.lists c)) ∙ length_contents (held m i c s.words s.pool) r) some))
+    let waits : 0 < waiting_in s.pacer.queues c = omega (arith, count_is m i s p ok c) in
+    subst (λ (xs : List Held). (get_or xs 0 nobody).entry.entry.length ≤ 1472) (ok.lists c)
+    (rw (get_or-waiting m i s.pacer s.pool c 0 nobody waits) (short-at s.pacer c 0 ok.short waits))
 
 short-send : (m : Limits) (i : ℕ) (s : Parts) (p : Page) → Matches m i s (page_view p) → (a : SendAction) → Shows m i s.pool (page_view p) a → IsShortSend a
 short-send m i s p ok (Send c slot sequence n forced) w =
@@ -168,21 +151,26 @@ short-send m i s p ok (Send c slot sequence n forced) w =
 short-send m i s p ok Empty w = tt
 short-send m i s p ok (RateLimited wait) w = tt
 
--- counts that stay
-tallied_same : (l l' : List ℕ) (i : ℕ) (p : Page) → ((k : ℕ) → k < 13 → count_in l' i k ≡ count_in l i k) → IsTallied l i p → IsTallied l' i p
-tallied_same l l' i p same t =
-    record {
-      accepted = λ c. same (3 + class_number c) (omega (arith, class-below c)) ∙ t.accepted c;
-      sent = λ c. same (6 + class_number c) (omega (arith, class-below c)) ∙ t.sent c;
-      pushed_p0 = t.pushed_p0;
-      pushed_p1 = same 9 (omega arith) ∙ t.pushed_p1;
-      pushed_p2 = same 1 (omega arith) ∙ t.pushed_p2;
-      replaced_p0 = t.replaced_p0;
-      replaced_p1 = t.replaced_p1;
-      replaced_p2 = same 0 (omega arith) ∙ t.replaced_p2;
-    }
+-- a send attempt adds what it says; with control off nothing is sent, and nothing counted
+count_tried :
+    (enabled : Bool) (p : Pacer) (time k : ℕ) → k < 13 → k ≢ 2 → count_in p k + send_adds (sent_if enabled p time).1 k ≤ 18446744073709551615
+    → count_in (sent_if enabled p time).0 k ≡ count_in p k + send_adds (sent_if enabled p time).1 k
+unfolding sent_if send_adds
+count_tried enabled p time k lo ne =
+    by_test
+    (λ (x : Pacer × SendAction). count_in p k + send_adds x.1 k ≤ 18446744073709551615 → count_in x.0 k ≡ count_in p k + send_adds x.1 k)
+    enabled (λ e. count_sent p time k lo ne) (λ e h. omega arith)
 
--- ---- every call keeps it
+-- a new pacer has counted nothing
+count_made : (time : ℕ) (m : Limits) (rate k : ℕ) → count_in (made time m rate) k ≡ 0
+count_made time m rate k = zeros 13 k
+  where
+    zeros : (n k : ℕ) → get_or {A = ℕ} (replicate n 0) k 0 ≡ 0
+    zeros zero k = refl
+    zeros (suc n) zero = refl
+    zeros (suc n) (suc k) = zeros n k
+
+-- ---- a registered pacer and its page
 
 -- a pacer's slots lie in a pool that has four pacers'
 pub slots_wide : (m : Limits) (i : ℕ) (g : List ℕ) → i < 4 → bytes_of (slots_needed m) ≤ length g → bytes_of (i * slots_of m + slots_of m) ≤ length g
@@ -194,240 +182,223 @@ slots_wide m i g h wide = go (slots_of m) (mul-le-mul_right (slots_of m) (le h))
     go : (n : ℕ) → suc i * n ≤ 4 * n → 4 * n * 1472 ≤ length g → (i * n + n) * 1472 ≤ length g
     go n a b = omega (arith, suc-mul i n)
 
-module _ (m : Limits) (g : List ℕ) (s : Station) (b : Book) (ok : IsSound m g s b) where
-  calls-next : (time : ℕ) → Timed s time → (moved s.ledger time).calls ≡ s.ledger.calls + 1
-  calls-next time h = omega (arith, h.room)
+-- what holds of pacer i and its page after so many calls: a call adds 1,474 to a count at most, a record's bytes and two more
+record IsPaged (m : Limits) (g : List ℕ) (calls i : ℕ) (p : Pacer) (b : Page) : Type 0 where
+  matches : Matches m i (parts_of p g) (page_view b)
+  tallied : IsTallied p b
+  few : (k : ℕ) → k < 13 → k ≢ 2 → count_in p k ≤ calls * 1474
 
-  counted_next : (time : ℕ) → Timed s time → (moved s.ledger time).calls ≤ 2 ^ 40
-  counted_next time h = omega (arith, h.room)
+-- counts and queues do not depend on tokens
+paged_rated :
+    (m : Limits) (g : List ℕ) (calls i : ℕ) (p : Pacer) (b : Page) (tokens : TokenBucket)
+    → IsPaged m g calls i p b → IsPaged m g calls i (with_tokens p tokens) b
+paged_rated m g calls i p b tokens ok =
+    record {
+      matches = stays m i p (with_tokens p tokens) g (page_view b) refl refl ok.matches;
+      tallied = tallied_same p (with_tokens p tokens) b refl ok.tallied;
+      few = ok.few;
+    }
 
-  used-next : (time : ℕ) → Timed s time → (i : ℕ) → (b i).next ≤ (moved s.ledger time).calls
-  used-next time h i = omega (arith, h.room, ok.used i)
+paged_budgeted :
+    (m : Limits) (g : List ℕ) (calls i : ℕ) (b : Page) (c : PacerConfig) (time : ℕ) (t : WriterTable) (w : Writer)
+    → IsPaged m g calls i w.pacer b → IsPaged m g calls i (budgeted c time t w).pacer b
+unfolding budgeted rate_set
+paged_budgeted m g calls i b c time t w ok =
+    by_test (λ (x : Writer). IsPaged m g calls i x.pacer b) (is_known t w.id) (λ e. paged_rated m g calls i w.pacer b _ ok) (λ e. ok)
 
-  -- another controller and roster, with no fewer writers; words, pool and book stay
+-- a new pacer begins with an empty page
+paged_new :
+    (m : Limits) (g : List ℕ) (calls i time rate : ℕ) → IsLimited m (made time m rate) → bytes_of (i * slots_of m + slots_of m) ≤ length g
+    → IsPaged m g calls i (made time m rate) empty_page
+paged_new m g calls i time rate limited wide =
+    record {
+      matches = made-matches m i time rate g limited wide;
+      tallied = tallied_new time m rate;
+      few = λ k lt ne. omega (arith, count_made time m rate k);
+    }
+
+-- ---- every call keeps it
+
+module _ (m : Limits) (g : List ℕ) (s : Station) (b : Book) (ok : IsSound m g s b) (time : ℕ) (h : Timed s time) where
+  abbrev calls : ℕ
+  calls = (moved s.ledger time).calls
+
+  calls-next : calls ≡ s.ledger.calls + 1
+  calls-next = omega (arith, h.room)
+
+  counted_next : calls ≤ 2 ^ 40
+  counted_next = omega (arith, h.room)
+
+  used-next : (i : ℕ) → (b i).next ≤ calls
+  used-next i = omega (arith, calls-next, ok.used i)
+
+  -- a pacer that the call does not concern
+  paged : (i : ℕ) → i < s.roster.count → IsPaged m g calls i (pacer_in s i) (b i)
+  paged i lo =
+      record { matches = ok.pages i lo; tallied = ok.tallies i lo; few = λ k lt ne. omega (arith, calls-next, ok.few i k lo lt ne) }
+
+  -- another controller and roster, with no fewer writers; pool and book stay
   sound-roster :
-      (time : ℕ) → Timed s time → (x : CongestionController) (r : Roster) → Seated r → s.roster.count ≤ r.count
-      → ((i : ℕ) → i < r.count → Matches m i (parts_of (writer_at r i).pacer s.words g) (page_view (b i)))
-      → ((i : ℕ) → i < r.count → IsTallied s.words i (b i))
-      → IsSound m g (station_of (moved s.ledger time) s.config x r s.words) b
-  sound-roster time h x r seated more pages tallies =
+      (x : CongestionController) (r : Roster) → Seated r → s.roster.count ≤ r.count
+      → ((i : ℕ) → i < r.count → IsPaged m g calls i (writer_at r i).pacer (b i))
+      → IsSound m g (station_of (moved s.ledger time) s.config x r) b
+  sound-roster x r seated more pages =
       record {
         seated = seated;
-        long = ok.long;
         same_limits = ok.same_limits;
         limited = ok.limited;
         wide = ok.wide;
-        counted = counted_next time h;
-        used = used-next time h;
+        counted = counted_next;
+        used = used-next;
         balanced = ok.balanced;
-        pages = pages;
-        tallies = tallies;
+        pages = λ i lo. (pages i lo).matches;
+        tallies = λ i lo. (pages i lo).tallied;
+        few = λ i k lo. (pages i lo).few k;
         unregistered = λ i above. ok.unregistered i (omega arith);
-        storage = ok.storage;
-        noughts = λ i above. ok.noughts i (omega arith);
-        few = λ i k lo lt ne. omega (arith, calls-next time h, ok.few i k lo lt ne);
       }
 
   -- the controller alone
-  sound-steered : (time : ℕ) → Timed s time → (x : CongestionController) → IsSound m g (steered s time x) b
-  sound-steered time h x = sound-roster time h x s.roster ok.seated (omega arith) ok.pages ok.tallies
+  sound-steered : (x : CongestionController) → IsSound m g (steered s time x) b
+  sound-steered x = sound-roster x s.roster ok.seated (omega arith) paged
 
   -- a budget touches neither queues nor numbers
-  budget-queues : (c : PacerConfig) (time : ℕ) (t : WriterTable) (w : Writer) → (budgeted c time t w).pacer.queues ≡ w.pacer.queues
-  unfolding budgeted rate_set
-  budget-queues c time t w = by_test (λ (x : Writer). x.pacer.queues ≡ w.pacer.queues) (is_known t w.id) (λ e. refl) (λ e. refl)
-
-  budget-next : (c : PacerConfig) (time : ℕ) (t : WriterTable) (w : Writer) → (budgeted c time t w).pacer.next_sequence ≡ w.pacer.next_sequence
-  unfolding budgeted rate_set
-  budget-next c time t w = by_test (λ (x : Writer). x.pacer.next_sequence ≡ w.pacer.next_sequence) (is_known t w.id) (λ e. refl) (λ e. refl)
-
-  sound-allotted : (time : ℕ) → Timed s time → (x : CongestionController) → IsSound m g (allotted s time x) b
-  unfolding budgeted_all
-  sound-allotted time h x =
-      sound-roster time h x _ (seated-budgeted s.config.pacer time x.allocator.table s.roster ok.seated) (omega arith)
+  sound-allotted : (x : CongestionController) → IsSound m g (allotted s time x) b
+  sound-allotted x =
+      sound-roster x _ (seated-budgeted s.config.pacer time x.allocator.table s.roster ok.seated)
+      (omega (arith, count_budgeted s.config.pacer time x.allocator.table s.roster))
       (λ i lo.
-      let at = budgeted_at s.config.pacer time x.allocator.table s.roster i ok.seated lo in
-      stays m i (parts_of (pacer_in s i) s.words g) (page_view (b i)) (ok.pages i lo) (pacer_in (allotted s time x) i) s.words (noted-none i s.words)
-      (ap (λ (w : Writer). w.pacer.queues) at ∙ budget-queues s.config.pacer time x.allocator.table (writer_at s.roster i))
-      (ap (λ (w : Writer). w.pacer.next_sequence) at ∙ budget-next s.config.pacer time x.allocator.table (writer_at s.roster i)))
-      ok.tallies
+      let own : i < s.roster.count = omega (arith, count_budgeted s.config.pacer time x.allocator.table s.roster) in
+      rw (budgeted_at s.config.pacer time x.allocator.table s.roster i ok.seated own)
+      (paged_budgeted m g calls i (b i) s.config.pacer time x.allocator.table (writer_at s.roster i) (paged i own)))
 
   -- a newcomer begins with an empty page
-  tallied-new : s.roster.count < 4 → IsTallied s.words s.roster.count empty_page
-  tallied-new lo =
-      record {
-        accepted = λ c. zero_at (3 + class_number c) (omega (arith, class-below c));
-        sent = λ c. zero_at (6 + class_number c) (omega (arith, class-below c));
-        pushed_p0 = refl;
-        pushed_p1 = zero_at 9 (omega arith);
-        pushed_p2 = zero_at 1 (omega arith);
-        replaced_p0 = refl;
-        replaced_p1 = refl;
-        replaced_p2 = zero_at 0 (omega arith);
-      }
-    where
-      zero_at : (k : ℕ) → k < 13 → count_in s.words s.roster.count k ≡ 0
-      zero_at k h = ok.noughts s.roster.count (omega arith) lo k h
-
-  sound-registered : (time id : ℕ) (class : Priority) → Timed s time → s.roster.count < 4 → IsSound m g (register_leaves s time id class) b
+  sound-registered : (id : ℕ) (class : Priority) → s.roster.count < 4 → IsSound m g (register_leaves s time id class) b
   unfolding register_leaves joined
-  sound-registered time id class h lo =
-      sound-roster time h _ (joined s.roster w) (seated-joined s.roster w ok.seated lo) (omega arith)
-      (λ i below. page i below (ℕ_discrete i s.roster.count)) (λ i below. tally i below (ℕ_discrete i s.roster.count))
+  sound-registered id class lo =
+      sound-roster _ (joined s.roster w) (seated-joined s.roster w ok.seated lo) (omega arith) (λ i below. page i below (ℕ_discrete i s.roster.count))
     where
       w : Writer
       w = writer_of id (first_pacer s.config.pacer time)
 
-      new-page : Matches m s.roster.count (parts_of (first_pacer s.config.pacer time) s.words g) (page_view (b s.roster.count))
+      new-page : IsPaged m g calls s.roster.count (first_pacer s.config.pacer time) (b s.roster.count)
       new-page =
-          subst (λ (p : Page). Matches m s.roster.count (parts_of (first_pacer s.config.pacer time) s.words g) (page_view p)) (sym (ok.unregistered s.roster.count (omega arith)))
-          (subst
-          (λ (l : Limits). Matches m s.roster.count (parts_of (made time l s.config.pacer.min_rate_bps) s.words g) (page_view empty_page))
-          (sym ok.same_limits)
-          (made-matches m s.roster.count time s.config.pacer.min_rate_bps s.words g ok.limited (ok.storage s.roster.count lo)))
+          rw (ok.unregistered s.roster.count (omega arith))
+          (subst (λ (l : Limits). IsPaged m g calls s.roster.count (made time l s.config.pacer.min_rate_bps) empty_page) (sym ok.same_limits)
+          (paged_new m g calls s.roster.count time s.config.pacer.min_rate_bps (ok.limited time s.config.pacer.min_rate_bps)
+          (slots_wide m s.roster.count g lo ok.wide)))
 
-      page : (i : ℕ) → i < s.roster.count + 1 → Dec (i ≡ s.roster.count) → Matches m i (parts_of (writer_at (joined s.roster w) i).pacer s.words g) (page_view (b i))
+      page : (i : ℕ) → i < s.roster.count + 1 → Dec (i ≡ s.roster.count) → IsPaged m g calls i (writer_at (joined s.roster w) i).pacer (b i)
       page i below (yes e) =
-          subst (λ (x : ℕ). Matches m x (parts_of (writer_at (joined s.roster w) x).pacer s.words g) (page_view (b x))) (sym e)
-          (subst (λ (x : Writer). Matches m s.roster.count (parts_of x.pacer s.words g) (page_view (b s.roster.count))) (sym (joined_new s.roster w ok.seated lo)) new-page)
-      page i below (no ne) =
-          subst (λ (x : Writer). Matches m i (parts_of x.pacer s.words g) (page_view (b i))) (sym (joined_other s.roster w i ne)) (ok.pages i (omega arith))
+          subst (λ (x : ℕ). IsPaged m g calls x (writer_at (joined s.roster w) x).pacer (b x)) (sym e)
+          (rw (joined_new s.roster w ok.seated lo) new-page)
+      page i below (no ne) = rw (joined_other s.roster w i ne) (paged i (omega arith))
 
-      tally : (i : ℕ) → i < s.roster.count + 1 → Dec (i ≡ s.roster.count) → IsTallied s.words i (b i)
-      tally i below (yes e) =
-          subst (λ (x : ℕ). IsTallied s.words x (b x)) (sym e)
-          (subst (IsTallied s.words s.roster.count) (sym (ok.unregistered s.roster.count (omega arith))) (tallied-new lo))
-      tally i below (no ne) = ok.tallies i (omega arith)
+  -- ---- a call on pacer i
 
-  -- ---- a hand-in
-
-  module _ (time i : ℕ) (c : Priority) (key : InstanceKey) (bytes : List ℕ) (h : Timed s time) (lo : i < s.roster.count) (n : length bytes ≤ 1472) where
+  module _ (i : ℕ) (lo : i < s.roster.count) where
     abbrev parts : Parts
-    parts = parts_of (pacer_in s i) s.words g
+    parts = parts_of (pacer_in s i) g
 
-    abbrev x : Enqueued
-    x = enqueued_in s i c key
-
-    abbrev page : Page
-    page = handed_by m (b i) c key bytes (fate_number x.kept.fate)
-
-    abbrev words' : List ℕ
-    words' = hand_in_written s.words i c x.kept (length bytes) key
-
-    abbrev g' : List ℕ
-    g' = hand_in_stored g m i c x.kept bytes
-
-    below4 : i < 4
-    below4 = omega (arith, ok.seated.fits)
-
-    kept_in : is_full x.kept.fate ≡ false → x.kept.slot < limit_in m c
-    kept_in = (decided m i parts (b i) (ok.pages i lo) key c).slot_in
-
-    kept_most : is_full x.kept.fate ≡ false → x.kept.slot < most_of c
-    kept_most e = omega (arith, kept_in e, ok.limited.most c)
-
-    fate : x.kept.fate ≡ fate_of m c key ((b i).queues c).waiting
-    fate = (decided m i parts (b i) (ok.pages i lo) key c).fate_is
-
-    long_at : pacer_at i + 1805 ≤ length s.words
-    long_at = (ok.storage i below4).long
-
-    wide_at : bytes_of (i * slots_of m + slots_of m) ≤ length g
-    wide_at = slots_wide m i g below4 ok.wide
-
-    same_pool : length g' ≡ length g
-    same_pool = length_pool m i c s.words g x.kept bytes key ok.limited.most n wide_at kept_in
-
-    own_page : Matches m i (parts_of x.core words' g') (page_view page)
-    own_page = hands_in m i parts (b i) c key bytes (ok.pages i lo) n (next_small m g s b ok i) (omega (arith, next_small m g s b ok i, (ok.balanced i).fewer_p2))
-
-    adds_exactly : (k : ℕ) → k < 13 → k ≢ 2 → count_in words' i k ≡ count_in s.words i k + hand_adds c x.kept.fate k
-    adds_exactly k lt ne =
-        count_handed s.words i c x.kept (length bytes) key k long_at kept_most lt ne
-        (omega (arith, hand-most c x.kept.fate k, ok.few i k below4 lt ne, ok.counted))
-
-    own_counts : (k : ℕ) → k < 10 → k ≢ 2 → count_in words' i k ≡ count_in s.words i k + hand_adds c (fate_of m c key ((b i).queues c).waiting) k
-    own_counts k lt ne = adds_exactly k (omega arith) ne ∙ ap (λ (f : Fate). count_in s.words i k + hand_adds c f k) fate
-
-    few_handed : (j k : ℕ) → j < 4 → k < 13 → k ≢ 2 → Dec (j ≡ i) → count_in words' j k ≤ (moved s.ledger time).calls * 1474
-    few_handed j k lo lt ne (yes e) =
-        subst (λ (y : ℕ). count_in words' y k ≤ (moved s.ledger time).calls * 1474) (sym e)
-        (omega (arith, adds_exactly k lt ne, hand-most c x.kept.fate k, ok.few i k below4 lt ne, calls-next time h))
-    few_handed j k lo lt ne (no off) =
-        omega (arith, count_handed_other s.words i c x.kept (length bytes) key j k off kept_most lt, ok.few j k lo lt ne, calls-next time h)
-
-    own_tally : IsTallied words' i page
-    own_tally =
-        subst (λ (f : Fate). IsTallied words' i (handed_by m (b i) c key bytes (fate_number f))) (sym fate)
-        (handed_tallied m (b i) c key bytes s.words words' i (ok.tallies i lo) own_counts ok.limited.least)
-
-    own_used : page.next ≤ s.ledger.calls + 1
-    own_used =
-        subst (λ (f : Fate). (handed_by m (b i) c key bytes (fate_number f)).next ≤ s.ledger.calls + 1) (sym fate)
-        (omega (arith, handed_next m (b i) c key bytes, ok.used i))
-
-    sound_handed : (lent : Lent) → IsSound m g' (paced s time i x.core words') (noted m b (hand_in time i c key bytes lent) (fate_number x.kept.fate) none)
-    unfolding noted
-    sound_handed lent =
+    -- another pacer in its place, and another page; the pool stays as long, and all other queues as their pages have them
+    sound-paced :
+        (g' : List ℕ) (p : Pacer) (page : Page) → length g' ≡ length g → page.next ≤ s.ledger.calls + 1
+        → ((j : ℕ) → IsBalancedPage (with_page b i page j)) → IsPaged m g' calls i p page
+        → ((j : ℕ) → j < s.roster.count → j ≢ i → Matches m j (parts_of (pacer_in s j) g') (page_view (b j)))
+        → IsSound m g' (paced s time i p) (with_page b i page)
+    sound-paced g' p page long used balanced own others =
         record {
-          seated = seated_with s.roster i x.core ok.seated;
-          long = length_handed s.words i c x.kept (length bytes) key ∙ ok.long;
+          seated = seated_with s.roster i p ok.seated;
           same_limits = ok.same_limits;
           limited = ok.limited;
-          wide = rw same_pool ok.wide;
-          counted = counted_next time h;
-          used = λ j. by_page (λ (k : ℕ) (p : Page). p.next ≤ (moved s.ledger time).calls) b i page j (omega (arith, own_used, calls-next time h)) (λ ne. used-next time h j);
-          balanced = λ j. unfold noted in balanced-noted m b (hand_in time i c key bytes lent) (fate_number x.kept.fate) none ok.balanced j;
-          pages = λ j below.
-              by_page (λ (k : ℕ) (p : Page). Matches m k (parts_of (pacer_in (paced s time i x.core words') k) words' g') (page_view p)) b i page j
-              (rw (pacer-same s.roster i x.core ok.seated lo) own_page)
-              (λ ne.
-              subst (λ (w : Writer). Matches m j (parts_of w.pacer words' g') (page_view (b j))) (sym (pacer_other s.roster i x.core j ne))
-              (matches_handed m i c s.words g x.kept bytes key ok.limited.most n wide_at kept_in j (pacer_in s j) (page_view (b j)) ne (ok.pages j (rw (← count_with s.roster i x.core) below))));
-          tallies = λ j below.
-              by_page (λ (k : ℕ) (p : Page). IsTallied words' k p) b i page j own_tally
-              (λ ne. tallied_same s.words words' j (b j) (λ k lt. count_handed_other s.words i c x.kept (length bytes) key j k ne kept_most lt) (ok.tallies j (rw (← count_with s.roster i x.core) below)));
-          unregistered = λ j above. page_other b i page j (λ (e : j ≡ i). omega (arith, count_with s.roster i x.core)) ∙ ok.unregistered j (rw (← count_with s.roster i x.core) above);
-          storage = λ j below. storage_at j below (ℕ_discrete j i);
-          noughts = λ j above lt k kt.
-              count_handed_other s.words i c x.kept (length bytes) key j k (λ (e : j ≡ i). omega (arith, count_with s.roster i x.core)) kept_most kt
-              ∙ ok.noughts j (rw (← count_with s.roster i x.core) above) lt k kt;
-          few = λ j k lt kt ne. few_handed j k lt kt ne (ℕ_discrete j i);
+          wide = rw long ok.wide;
+          counted = counted_next;
+          used = λ j. by_page (λ (k : ℕ) (p : Page). p.next ≤ calls) b i page j (omega (arith, calls-next)) (λ ne. used-next j);
+          balanced = balanced;
+          pages = λ j below. (pages j (rw (← count_with s.roster i p) below)).matches;
+          tallies = λ j below. (pages j (rw (← count_with s.roster i p) below)).tallied;
+          few = λ j k below. (pages j (rw (← count_with s.roster i p) below)).few k;
+          unregistered = λ j above.
+              page_other b i page j (λ (e : j ≡ i). omega (arith, count_with s.roster i p)) ∙ ok.unregistered j (rw (← count_with s.roster i p) above);
         }
       where
-        storage_at : (j : ℕ) → j < 4 → Dec (j ≡ i) → IsStored m j words' g'
-        storage_at j below (yes e) = subst (λ (k : ℕ). IsStored m k words' g') (sym e) own_page.storage
-        storage_at j below (no ne) =
-            stored_handed m i c s.words g x.kept bytes key ok.limited.most n wide_at kept_in j ne (ok.storage j below)
+        other : (j : ℕ) → j < s.roster.count → j ≢ i → IsPaged m g' calls j (pacer_in s j) (b j)
+        other j below ne =
+            let before = paged j below in record { matches = others j below ne; tallied = before.tallied; few = before.few }
 
-  -- ---- a send attempt
+        pages : (j : ℕ) → j < s.roster.count → IsPaged m g' calls j (pacer_in (paced s time i p) j) (with_page b i page j)
+        pages j below =
+            by_page (λ (k : ℕ) (q : Page). IsPaged m g' calls k (pacer_in (paced s time i p) k) q) b i page j
+            (rw (pacer-same s.roster i p ok.seated lo) own)
+            (λ ne. subst (λ (w : Writer). IsPaged m g' calls j w.pacer (b j)) (sym (pacer_other s.roster i p j ne)) (other j below ne))
 
-  module _ (time i : ℕ) (h : Timed s time) (lo : i < s.roster.count) where
-    abbrev a : Attempt
+    -- ---- a hand-in
+
+    module _ (c : Priority) (key : InstanceKey) (bytes : List ℕ) (n : length bytes ≤ 1472) where
+      abbrev x : Pacer × Kept
+      x = enqueued_in s i c key (length bytes)
+
+      abbrev page : Page
+      page = handed_by m (b i) c key bytes (fate_number x.1.fate)
+
+      abbrev g' : List ℕ
+      g' = hand_in_stored g m i c x.1 bytes
+
+      slot_in : is_full x.1.fate ≡ false → x.1.slot < limit_in m c
+      slot_in = (keeps m (pacer_in s i) (ok.pages i lo).limited c key (length bytes)).slot_in
+
+      fate : x.1.fate ≡ fate_of m c key ((b i).queues c).waiting
+      fate = fate_is m i parts (b i) (ok.pages i lo) c key (length bytes)
+
+      adds_exactly : (k : ℕ) → k < 13 → k ≢ 2 → count_in x.0 k ≡ count_in (pacer_in s i) k + hand_adds c x.1.fate k
+      adds_exactly k lt ne =
+          count_handed (pacer_in s i) c key (length bytes) k lt ne
+          (omega (arith, hand-most c x.1.fate k, ok.few i k lo lt ne, ok.counted))
+
+      own_matches : Matches m i (parts_of x.0 g') (page_view page)
+      own_matches =
+          hands_in m i parts (b i) c key bytes (ok.pages i lo) n (next_small m g s b ok i)
+          (omega (arith, next_small m g s b ok i, (ok.balanced i).fewer_p2))
+
+      own_tally : IsTallied x.0 page
+      own_tally =
+          rw fate
+          (handed_tallied m (b i) c key bytes (pacer_in s i) x.0 (ok.tallies i lo)
+          (λ k lt ne. adds_exactly k (omega arith) ne ∙ ap (λ (f : Fate). count_in (pacer_in s i) k + hand_adds c f k) fate)
+          (least m i parts (b i) (ok.pages i lo) c))
+
+      own_page : IsPaged m g' calls i x.0 page
+      own_page =
+          record {
+            matches = own_matches;
+            tallied = own_tally;
+            few = λ k lt ne. omega (arith, adds_exactly k lt ne, hand-most c x.1.fate k, ok.few i k lo lt ne, calls-next);
+          }
+
+      own_used : page.next ≤ s.ledger.calls + 1
+      own_used = rw fate (omega (arith, handed_next m (b i) c key bytes, ok.used i))
+
+      sound_handed : (lent : Lent) → IsSound m g' (paced s time i x.0) (noted m b (hand_in time i c key bytes lent) (fate_number x.1.fate) none)
+      unfolding noted
+      sound_handed lent =
+          let wide = (ok.pages i lo).wide in
+          sound-paced g' x.0 page (length-handed m i c g bytes n wide x.1 slot_in) own_used
+          (balanced-noted m b (hand_in time i c key bytes lent) (fate_number x.1.fate) none ok.balanced) own_page
+          (λ j below ne. matches_other m i c g bytes n wide x.1 slot_in j (pacer_in s j) (page_view (b j)) ne (ok.pages j below))
+
+    -- ---- a send attempt
+
+    abbrev a : Pacer × SendAction
     a = attempt_in s time i
 
-    abbrev noted-words : List ℕ
-    noted-words = send_noted s.words i a.action
+    tried : TriedBy m i parts (b i) a
+    tried = tries_out m i parts (b i) s.config.pacer.enabled time (ok.pages i lo)
 
-    tried : TriedBy m i (parts_of (pacer_in s i) s.words g) (b i) a
-    tried = tries_out m i (parts_of (pacer_in s i) s.words g) (b i) s.config.pacer.enabled time (ok.pages i lo)
+    most : (k : ℕ) → send_adds a.1 k ≤ 1474
+    most k = send-most a.1 (short-send m i parts (b i) (ok.pages i lo) a.1 tried.0) k
 
-    below_4 : i < 4
-    below_4 = omega (arith, ok.seated.fits)
-
-    most : (k : ℕ) → send_adds a.action k ≤ 1474
-    most k = send-most a.action (short-send m i (parts_of (pacer_in s i) s.words g) (b i) (ok.pages i lo) a.action tried.0) k
-
-    sends_exactly : (k : ℕ) → k < 13 → k ≢ 2 → count_in noted-words i k ≡ count_in s.words i k + send_adds a.action k
+    sends_exactly : (k : ℕ) → k < 13 → k ≢ 2 → count_in a.0 k ≡ count_in (pacer_in s i) k + send_adds a.1 k
     sends_exactly k lt ne =
-        count_sent s.words i a.action k (ok.storage i below_4).long lt ne (omega (arith, most k, ok.few i k below_4 lt ne, ok.counted))
-
-    few_sent : (j k : ℕ) → j < 4 → k < 13 → k ≢ 2 → Dec (j ≡ i) → count_in noted-words j k ≤ (moved s.ledger time).calls * 1474
-    few_sent j k lt kt ne (yes e) =
-        subst (λ (y : ℕ). count_in noted-words y k ≤ (moved s.ledger time).calls * 1474) (sym e)
-        (omega (arith, sends_exactly k kt ne, most k, ok.few i k below_4 kt ne, calls-next time h))
-    few_sent j k lt kt ne (no off) =
-        omega (arith, count_sent_other s.words i a.action j k off kt, ok.few j k lt kt ne, calls-next time h)
+        count_tried s.config.pacer.enabled (pacer_in s i) time k lt ne (omega (arith, most k, ok.few i k lo lt ne, ok.counted))
 
     waits_there : (x : SendAction) → Shows m i g (page_view (b i)) x → Waits (b i) x
     waits_there (Send c slot sequence n forced) w = w.waits
@@ -439,57 +410,43 @@ module _ (m : Limits) (g : List ℕ) (s : Station) (b : Book) (ok : IsSound m g 
     used_sent none = refl
     used_sent (one c) = refl
 
-    sound_sent : (lent : Lent) → IsSound m g (paced s time i a.core noted-words) (noted m b (send time i lent) 0 (sent_as a.action))
+    tried_page : IsPaged m g calls i a.0 (page_after_send (b i) (sent_as a.1))
+    tried_page =
+        record {
+          matches = tried.1;
+          tallied =
+              sent_tallied (b i) a.1 (pacer_in s i) a.0 (ok.tallies i lo) (λ k lt ne. sends_exactly k (omega arith) ne) (waits_there a.1 tried.0);
+          few = λ k lt ne. omega (arith, sends_exactly k lt ne, most k, ok.few i k lo lt ne, calls-next);
+        }
+
+    sound_sent : (lent : Lent) → IsSound m g (paced s time i a.0) (noted m b (send time i lent) 0 (sent_as a.1))
     unfolding noted
     sound_sent lent =
+        sound-paced g a.0 (page_after_send (b i) (sent_as a.1)) refl (omega (arith, used_sent (sent_as a.1), ok.used i))
+        (balanced-noted m b (send time i lent) 0 (sent_as a.1) ok.balanced) tried_page (λ j below ne. ok.pages j below)
+
+-- ---- every call; n is the length of the pool that the last call left
+
+pub sound_outcome :
+    (m : Limits) (g : List ℕ) (s : Station) (b : Book) → IsSound m g s b → (n : ℕ) (x : Call)
+    → IsSound m (written s n x g) (outcome s n x).station (noted m b x (outcome s n x).answer (sent_in (outcome s n x).reply))
+sound_outcome m g s b ok n x = by_case s n P cases x
+  where
+    P : Call → Outcome → Type 0
+    P x o = IsSound m (written s n x g) o.station (noted m b x o.answer (sent_in o.reply))
+
+    limits :
+        (i : ℕ) (c : Priority) (kept : Kept) (bytes : List ℕ) → hand_in_stored g (limits_in s) i c kept bytes ≡ hand_in_stored g m i c kept bytes
+    limits i c kept bytes = ap (λ (l : Limits). hand_in_stored g l i c kept bytes) ok.same_limits
+
+    cases : Cases s n P
+    cases =
         record {
-          seated = seated_with s.roster i a.core ok.seated;
-          long = length-sent s.words i a.action ∙ ok.long;
-          same_limits = ok.same_limits;
-          limited = ok.limited;
-          wide = ok.wide;
-          counted = counted_next time h;
-          used = λ j. by_page (λ (k : ℕ) (p : Page). p.next ≤ (moved s.ledger time).calls) b i page j (rw (used_sent (sent_as a.action)) (used-next time h i)) (λ ne. used-next time h j);
-          balanced = λ j. unfold noted in balanced-noted m b (send time i lent) 0 (sent_as a.action) ok.balanced j;
-          pages = λ j below.
-              by_page (λ (k : ℕ) (p : Page). Matches m k (parts_of (pacer_in (paced s time i a.core noted-words) k) noted-words g) (page_view p)) b i page j
-              (rw (pacer-same s.roster i a.core ok.seated lo) tried.1)
-              (λ ne.
-              subst (λ (w : Writer). Matches m j (parts_of w.pacer noted-words g) (page_view (b j))) (sym (pacer_other s.roster i a.core j ne))
-              (matches-noted m i j (pacer_in s j) s.words noted-words g (page_view (b j)) (noted-send i s.words a.action) (ok.pages j (rw (← count_with s.roster i a.core) below))));
-          tallies = λ j below.
-              by_page (λ (k : ℕ) (p : Page). IsTallied noted-words k p) b i page j
-              (sent_tallied (b i) a.action s.words noted-words i (ok.tallies i lo) (λ k lt ne. sends_exactly k (omega arith) ne) (waits_there a.action tried.0))
-              (λ ne. tallied_same s.words noted-words j (b j) (λ k lt. count_sent_other s.words i a.action j k ne lt) (ok.tallies j (rw (← count_with s.roster i a.core) below)));
-          unregistered = λ j above. page_other b i page j (λ (e : j ≡ i). omega (arith, count_with s.roster i a.core)) ∙ ok.unregistered j (rw (← count_with s.roster i a.core) above);
-          storage = λ j below. stored-noted m i j s.words noted-words g (noted-send i s.words a.action) (ok.storage j below);
-          noughts = λ j above lt k kt.
-              count_sent_other s.words i a.action j k (λ (e : j ≡ i). omega (arith, count_with s.roster i a.core)) kt
-              ∙ ok.noughts j (rw (← count_with s.roster i a.core) above) lt k kt;
-          few = λ j k lt kt ne. few_sent j k lt kt ne (ℕ_discrete j i);
+          turned_down = λ x answer z t still. rw (still g, noted-down m b x answer z t) ok;
+          steers = λ x time reply c same q silent h. rw (q.pool s n g, q.book m b 0 (sent_in reply)) (sound-steered m g s b ok time h c);
+          allots = λ x time c rate is q h. rw (q.pool s n g, q.book m b 0 none) (sound-allotted m g s b ok time h c);
+          registers = λ time id class h lo. unfold written noted in sound-registered m g s b ok time h id class lo;
+          hands = λ time i c key bytes lent h lo short wide puts.
+              rw (puts g, limits i c (enqueued_in s i c key (length bytes)).1 bytes) (sound_handed m g s b ok time h i lo c key bytes short lent);
+          tries = λ time i lent h lo wide. unfold written in sound_sent m g s b ok time h i lo lent;
         }
-      where
-        page : Page
-        page = page_after_send (b i) (sent_as a.action)
-
-  -- ---- every call; n is the length of the pool that the last call left
-
-  pub sound_outcome : (n : ℕ) (x : Call) → IsSound m (written s n x g) (outcome s n x).station (noted m b x (outcome s n x).answer (sent_in (outcome s n x).reply))
-  sound_outcome n x = by_case s n P cases x
-    where
-      P : Call → Outcome → Type 0
-      P x o = IsSound m (written s n x g) o.station (noted m b x o.answer (sent_in o.reply))
-
-      limits : (time i : ℕ) (c : Priority) (key : InstanceKey) (bytes : List ℕ) → hand_in_stored g (limits_in s) i c (enqueued_in s i c key).kept bytes ≡ hand_in_stored g m i c (enqueued_in s i c key).kept bytes
-      limits time i c key bytes = ap (λ (l : Limits). hand_in_stored g l i c (enqueued_in s i c key).kept bytes) ok.same_limits
-
-      cases : Cases s n P
-      cases =
-          record {
-            turned_down = λ x answer z t still. rw (still g, noted-down m b x answer z t) ok;
-            steers = λ x time reply c same q silent h. rw (q.pool s n g, q.book m b 0 (sent_in reply)) (sound-steered time h c);
-            allots = λ x time c rate is q h. rw (q.pool s n g, q.book m b 0 none) (sound-allotted time h c);
-            registers = λ time id class h lo. unfold written noted in sound-registered time id class h lo;
-            hands = λ time i c key bytes lent h lo short wide puts. rw (puts g, limits time i c key bytes) (sound_handed time i c key bytes h lo short lent);
-            tries = λ time i lent h lo wide. unfold written in sound_sent time i h lo lent;
-          }

@@ -3,28 +3,29 @@ use Prim.Native.Nat.{ℕ, ◌+◌, ◌≤◌, ◌<◌}
 use mathlib.Core.Bool.{Bool, true, false, cond}
 use mathlib.Core.List.{List, [], ◌∷◌, ◌++◌}
 use mathlib.Core.Logic.{◌≢◌}
-use mathlib.Core.Path.{◌≡◌, refl, sym, ap, ◌∙◌}
+use mathlib.Core.Path.{◌≡◌, refl, ap, ◌∙◌}
 use native.Mathlib.Omega.{arith}
-use borrow.Author.Tests.{ltb-true, ltb-false}
+use borrow.Author.Tests.{eqb-false, ltb-true, ltb-false}
 use lib.Dec.{ltb, eqb}
 use lib.ListN.{length, take, drop, length-append, length-take, length-drop}
 use Rattle.config.specs.Config.{class_number}
 use Rattle.config.specs.declared.config.Priority.{Priority}
 use Rattle.config.specs.declared.config.Priority.TheVariants.{P0, P1, P2}
 use Rattle.numeric.proofs.Choice.{by_test}
-use Rattle.pacing.proofs.Slots.{class-below}
-use Rattle.pacing.specs.Counts.{only_at, hand_adds, send_adds}
-use Rattle.pacing.specs.Records.{Held, limit_in, list_after, with_list}
-use Rattle.pacing.specs.Ring.{fate_number}
-use Rattle.pacing.specs.Window.{join_list}
-use Rattle.pacing.specs.WriterPacer.{count_in}
-use Rattle.pacing.specs.declared.coalescing.InstanceKey.{InstanceKey}
-use Rattle.pacing.specs.declared.pool.Limits.{Limits}
-use Rattle.pacing.specs.declared.ring.Fate.{Fate}
-use Rattle.pacing.specs.declared.ring.Fate.TheVariants.{Full, Joined, PushedOut, Replaced}
-use Rattle.pacing.specs.declared.writer_pacer.SendAction.{SendAction}
-use Rattle.pacing.specs.declared.writer_pacer.SendAction.TheVariants.{Send, Empty, RateLimited}
-use Rattle.guarantees.specs.Book.{Queue, room_in, joining, replacing, place_of, keyed_in, handed_to, taken_from, Page, with_queue, next_p2_after, record_of, handed_by, page_sent, sent_as, page_after_send}
+use Rattle.queue.specs.Fates.{fate_number}
+use Rattle.queue.specs.Pool.{limit_in}
+use Rattle.queue.specs.declared.entry.InstanceKey.{InstanceKey}
+use Rattle.queue.specs.declared.fate.Fate.{Fate}
+use Rattle.queue.specs.declared.fate.Fate.TheVariants.{Full, Joined, PushedOut, Replaced}
+use Rattle.queue.specs.declared.pool.Limits.{Limits}
+use Rattle.pacing.specs.Counts.{count_in, only_at, hand_adds, send_adds}
+use Rattle.pacing.specs.Records.{Held, place_of, join_list, list_after, with_list}
+use Rattle.pacing.specs.WriterPacer.{Pacer, made, metrics_in}
+use Rattle.pacing.specs.declared.pacer_counts.WriterPacerMetrics.{WriterPacerMetrics}
+use Rattle.pacing.specs.declared.send_action.SendAction.{SendAction}
+use Rattle.pacing.specs.declared.send_action.SendAction.TheVariants.{Send, Empty, RateLimited}
+use Rattle.guarantees.specs.Book.{Queue, room_in, joining, replacing, keyed_in, handed_to, taken_from, Page, empty_page, with_queue, next_p2_after, record_of, handed_by, page_sent, sent_as, page_after_send}
+use Rattle.guarantees.specs.Theorem.{enqueued_of, sent_of, dropped_of, coalesced_of}
 
 -- ---- fates
 
@@ -34,21 +35,7 @@ fate_of m P0 key xs = cond (room_in m.p0 xs) Joined Full
 fate_of m P1 key xs = cond (room_in m.p1 xs) Joined PushedOut
 fate_of m P2 key xs = cond (ltb (place_of key xs) (length xs)) Replaced (cond (room_in m.p2 xs) Joined PushedOut)
 
--- P1 and P2 turn down no record
-joins-taken : (t : Bool) → fate_number (cond t Joined PushedOut) ≡ 0
-joins-taken true = refl
-joins-taken false = refl
-
-taken-p1 : (m : Limits) (key : InstanceKey) (xs : List Held) → fate_number (fate_of m P1 key xs) ≡ 0
-unfolding fate_of
-taken-p1 m key xs = joins-taken (room_in m.p1 xs)
-
-taken-p2 : (m : Limits) (key : InstanceKey) (xs : List Held) → fate_number (fate_of m P2 key xs) ≡ 0
-unfolding fate_of
-taken-p2 m key xs =
-    by_test (λ (f : Fate). fate_number f ≡ 0) (ltb (place_of key xs) (length xs)) (λ e. refl) (λ e. joins-taken (room_in m.p2 xs))
-
--- ---- lists and counters
+-- ---- lists
 
 -- the list that waits in a queue chosen by a test is the one chosen
 chosen-waiting : (t : Bool) (q r : Queue) → cond t q.waiting r.waiting ≡ (cond t q r).waiting
@@ -62,45 +49,6 @@ exchanged-waiting :
 unfolding with_list with_queue
 exchanged-waiting queues c q d = chosen-waiting (eqb (class_number d) (class_number c)) q (queues d)
 
--- the lists after a hand-in, as the pacer has them
-abbrev lists_handed : Limits → Page → Priority → InstanceKey → List ℕ → Priority → List Held
-lists_handed m b c key bytes d =
-    with_list (λ (c : Priority). (b.queues c).waiting) c (list_after m c key (b.queues c).waiting (record_of b c key bytes)) d
-
--- a record taken in joins the book's list as it joins the pacer's
-taken-lists :
-    (m : Limits) (b : Page) (c : Priority) (key : InstanceKey) (bytes : List ℕ) (d : Priority) (answer : ℕ) → answer ≡ 0
-    → list_after m c key (b.queues c).waiting (record_of b c key bytes) ≡ (handed_to m c key (b.queues c) (record_of b c key bytes)).waiting
-    → lists_handed m b c key bytes d ≡ ((handed_by m b c key bytes answer).queues d).waiting
-unfolding handed_by
-taken-lists m b c key bytes d answer zero same =
-    ap (λ (xs : List Held). with_list (λ (c : Priority). (b.queues c).waiting) c xs d) same
-    ∙ exchanged-waiting b.queues c (handed_to m c key (b.queues c) (record_of b c key bytes)) d
-    ∙ ap (λ (n : ℕ). ((handed_by m b c key bytes n).queues d).waiting) (sym zero)
-
--- a full P0 keeps its list
-full-lists :
-    (m : Limits) (b : Page) (key : InstanceKey) (bytes : List ℕ) (d : Priority) → room_in m.p0 (b.queues P0).waiting ≡ false
-    → lists_handed m b P0 key bytes d ≡ ((handed_by m b P0 key bytes 12).queues d).waiting
-unfolding handed_by list_after with_list
-full-lists m b key bytes P0 e = rw e
-full-lists m b key bytes P1 e = refl
-full-lists m b key bytes P2 e = refl
-
--- a hand-in leaves the book's lists as it leaves the pacer's
-pub handed_lists :
-    (m : Limits) (b : Page) (c : Priority) (key : InstanceKey) (bytes : List ℕ) (d : Priority)
-    → with_list (λ (c : Priority). (b.queues c).waiting) c (list_after m c key (b.queues c).waiting (record_of b c key bytes)) d
-    ≡ ((handed_by m b c key bytes (fate_number (fate_of m c key (b.queues c).waiting))).queues d).waiting
-unfolding fate_of list_after handed_to joining join_list keyed_in replacing
-handed_lists m b P0 key bytes d =
-    by_test (λ (f : Fate). lists_handed m b P0 key bytes d ≡ ((handed_by m b P0 key bytes (fate_number f)).queues d).waiting)
-    (room_in m.p0 (b.queues P0).waiting) (λ e. taken-lists m b P0 key bytes d 0 refl (rw e)) (full-lists m b key bytes d)
-handed_lists m b P1 key bytes d = taken-lists m b P1 key bytes d _ (taken-p1 m key (b.queues P1).waiting) refl
-handed_lists m b P2 key bytes d =
-    taken-lists m b P2 key bytes d _ (taken-p2 m key (b.queues P2).waiting)
-    (chosen-waiting (ltb (place_of key (b.queues P2).waiting) (length (b.queues P2).waiting)) _ _)
-
 -- a send attempt's record leaves the book's list as it leaves the pacer's
 pub sent-lists :
     (b : Page) (c d : Priority)
@@ -108,40 +56,14 @@ pub sent-lists :
 unfolding taken_from
 sent-lists b c d = exchanged-waiting b.queues c (taken_from (b.queues c)) d
 
--- every hand-in uses up a number
-next_by :
-    (m : Limits) (b : Page) (c : Priority) (key : InstanceKey) (bytes : List ℕ) (f : Fate)
-    → (handed_by m b c key bytes (fate_number f)).next ≡ b.next + 1
-unfolding handed_by
-next_by m b c key bytes Full = refl
-next_by m b c key bytes Joined = refl
-next_by m b c key bytes PushedOut = refl
-next_by m b c key bytes Replaced = refl
-
-pub handed_next :
-    (m : Limits) (b : Page) (c : Priority) (key : InstanceKey) (bytes : List ℕ)
-    → (handed_by m b c key bytes (fate_number (fate_of m c key (b.queues c).waiting))).next ≡ b.next + 1
-handed_next m b c key bytes = next_by m b c key bytes (fate_of m c key (b.queues c).waiting)
-
--- a P2 hand-in uses up one of P2's
-pub handed_next_p2 :
-    (m : Limits) (b : Page) (c : Priority) (key : InstanceKey) (bytes : List ℕ)
-    → (handed_by m b c key bytes (fate_number (fate_of m c key (b.queues c).waiting))).next_p2 ≡ next_p2_after b c
-unfolding fate_of handed_by
-handed_next_p2 m b P0 key bytes =
-    by_test (λ (f : Fate). (handed_by m b P0 key bytes (fate_number f)).next_p2 ≡ b.next_p2) (room_in m.p0 (b.queues P0).waiting)
-    (λ e. refl) (λ e. refl)
-handed_next_p2 m b P1 key bytes = ap (λ (n : ℕ). (handed_by m b P1 key bytes n).next_p2) (taken-p1 m key (b.queues P1).waiting)
-handed_next_p2 m b P2 key bytes = ap (λ (n : ℕ). (handed_by m b P2 key bytes n).next_p2) (taken-p2 m key (b.queues P2).waiting)
-
 -- ---- lengths
 
 -- a queue with so many more records accepted, sent, pushed out and replaced
-record Wider (q r : Queue) (accepts sends pushes replaces : ℕ) : Type 0 where
-  accepted : length r.accepted ≡ length q.accepted + accepts
-  sent : length r.sent ≡ length q.sent + sends
-  pushed : length r.pushed_out ≡ length q.pushed_out + pushes
-  replaced : length r.replaced ≡ length q.replaced + replaces
+pub record Wider (q r : Queue) (accepts sends pushes replaces : ℕ) : Type 0 where
+  pub accepted : length r.accepted ≡ length q.accepted + accepts
+  pub sent : length r.sent ≡ length q.sent + sends
+  pub pushed : length r.pushed_out ≡ length q.pushed_out + pushes
+  pub replaced : length r.replaced ≡ length q.replaced + replaces
 
 wider_same : (q : Queue) → Wider q q 0 0 0 0
 wider_same q = record { accepted = omega arith; sent = omega arith; pushed = omega arith; replaced = omega arith }
@@ -191,18 +113,18 @@ wider_taken q h =
 
 -- ---- tallies
 
--- the counts of pacer i are the lengths of its lists in the book
-pub record IsTallied (l : List ℕ) (i : ℕ) (b : Page) : Type 0 where
-  pub accepted : (c : Priority) → count_in l i (3 + class_number c) ≡ length (b.queues c).accepted
-  pub sent : (c : Priority) → count_in l i (6 + class_number c) ≡ length (b.queues c).sent
-  pub pushed_p0 : length (b.queues P0).pushed_out ≡ 0
-  pub pushed_p1 : count_in l i 9 ≡ length (b.queues P1).pushed_out
-  pub pushed_p2 : count_in l i 1 ≡ length (b.queues P2).pushed_out
-  pub replaced_p0 : length (b.queues P0).replaced ≡ 0
-  pub replaced_p1 : length (b.queues P1).replaced ≡ 0
-  pub replaced_p2 : count_in l i 0 ≡ length (b.queues P2).replaced
+-- the counts of a pacer are the lengths of its lists in the book
+pub record IsTallied (p : Pacer) (b : Page) : Type 0 where
+  pub accepted : (c : Priority) → enqueued_of (metrics_in p) c ≡ length (b.queues c).accepted
+  pub sent : (c : Priority) → sent_of (metrics_in p) c ≡ length (b.queues c).sent
+  pub pushed_out : (c : Priority) → dropped_of (metrics_in p) c ≡ length (b.queues c).pushed_out
+  pub replaced : (c : Priority) → coalesced_of (metrics_in p) c ≡ length (b.queues c).replaced
 
--- what the counts of a pacer that add f add to a class's records pushed out and replaced
+-- a pacer whose counts but P2's waiting bytes have f more, bytes, waits and forced sends apart
+abbrev pub Adds : Pacer → Pacer → (ℕ → ℕ) → Type 0
+Adds p p' f = (k : ℕ) → k < 10 → k ≢ 2 → count_in p' k ≡ count_in p k + f k
+
+-- what that adds to a class's records pushed out and replaced
 abbrev pushes_in : (ℕ → ℕ) → Priority → ℕ
 pushes_in f P0 = 0
 pushes_in f P1 = f 9
@@ -213,78 +135,154 @@ replaces_in f P0 = 0
 replaces_in f P1 = 0
 replaces_in f P2 = f 0
 
-abbrev WiderBy : (ℕ → ℕ) → Priority → Queue → Queue → Type 0
-WiderBy f c q r = Wider q r (f (3 + class_number c)) (f (6 + class_number c)) (pushes_in f c) (replaces_in f c)
+-- a page whose lists grow by as much
+abbrev pub Grown : (ℕ → ℕ) → Page → Page → Type 0
+Grown f b b' = (c : Priority) → Wider (b.queues c) (b'.queues c) (f (3 + class_number c)) (f (6 + class_number c)) (pushes_in f c) (replaces_in f c)
 
--- a page whose lists grow by what the counts add
-record Grown (f : ℕ → ℕ) (b b' : Page) : Type 0 where
-  p0 : WiderBy f P0 (b.queues P0) (b'.queues P0)
-  p1 : WiderBy f P1 (b.queues P1) (b'.queues P1)
-  p2 : WiderBy f P2 (b.queues P2) (b'.queues P2)
+module _ (p p' : Pacer) (f : ℕ → ℕ) (adds : Adds p p' f) where
+  at : (k : ℕ) → ltb k 10 ≡ true → eqb k 2 ≡ false → count_in p' k ≡ count_in p k + f k
+  at k lo ne = adds k (ltb-true k 10 lo) (eqb-false k 2 ne)
 
-grown_in : {f : ℕ → ℕ} {b b' : Page} → Grown f b b' → (c : Priority) → WiderBy f c (b.queues c) (b'.queues c)
-grown_in w P0 = w.p0
-grown_in w P1 = w.p1
-grown_in w P2 = w.p2
+  enqueued_more : (c : Priority) → enqueued_of (metrics_in p') c ≡ enqueued_of (metrics_in p) c + f (3 + class_number c)
+  enqueued_more P0 = at 3 refl refl
+  enqueued_more P1 = at 4 refl refl
+  enqueued_more P2 = at 5 refl refl
 
--- tallies stay where the lists grow by what the counts add
-grown_tallied :
-    (l l' : List ℕ) (i : ℕ) (b b' : Page) (f : ℕ → ℕ) → IsTallied l i b → ((k : ℕ) → k < 10 → k ≢ 2 → count_in l' i k ≡ count_in l i k + f k)
-    → Grown f b b' → IsTallied l' i b'
-grown_tallied l l' i b b' f t adds w =
-    record {
-      accepted = λ c.
-          to (3 + class_number c) (omega (arith, class-below c)) (λ (q : 3 + class_number c ≡ 2). omega arith) (t.accepted c) (grown_in w c).accepted;
-      sent = λ c.
-          to (6 + class_number c) (omega (arith, class-below c)) (λ (q : 6 + class_number c ≡ 2). omega arith) (t.sent c) (grown_in w c).sent;
-      pushed_p0 = w.p0.pushed ∙ omega (arith, t.pushed_p0);
-      pushed_p1 = to 9 (omega arith) (λ (q : ◌≡◌ {A = ℕ} 9 2). omega arith) t.pushed_p1 w.p1.pushed;
-      pushed_p2 = to 1 (omega arith) (λ (q : ◌≡◌ {A = ℕ} 1 2). omega arith) t.pushed_p2 w.p2.pushed;
-      replaced_p0 = w.p0.replaced ∙ omega (arith, t.replaced_p0);
-      replaced_p1 = w.p1.replaced ∙ omega (arith, t.replaced_p1);
-      replaced_p2 = to 0 (omega arith) (λ (q : ◌≡◌ {A = ℕ} 0 2). omega arith) t.replaced_p2 w.p2.replaced;
-    }
-  where
-    to : {m n : ℕ} (k : ℕ) → k < 10 → k ≢ 2 → count_in l i k ≡ m → n ≡ m + f k → count_in l' i k ≡ n
-    to k lo ne was grows = adds k lo ne ∙ omega (arith, was, grows)
+  sent_more : (c : Priority) → sent_of (metrics_in p') c ≡ sent_of (metrics_in p) c + f (6 + class_number c)
+  sent_more P0 = at 6 refl refl
+  sent_more P1 = at 7 refl refl
+  sent_more P2 = at 8 refl refl
+
+  dropped_more : (c : Priority) → dropped_of (metrics_in p') c ≡ dropped_of (metrics_in p) c + pushes_in f c
+  dropped_more P0 = refl
+  dropped_more P1 = at 9 refl refl
+  dropped_more P2 = at 1 refl refl
+
+  coalesced_more : (c : Priority) → coalesced_of (metrics_in p') c ≡ coalesced_of (metrics_in p) c + replaces_in f c
+  coalesced_more P0 = refl
+  coalesced_more P1 = refl
+  coalesced_more P2 = at 0 refl refl
+
+  -- tallies stay where the lists grow by what the counts add
+  grown_tallied : (b b' : Page) → IsTallied p b → Grown f b b' → IsTallied p' b'
+  grown_tallied b b' t w =
+      record {
+        accepted = λ c. omega (arith, enqueued_more c, t.accepted c, (w c).accepted);
+        sent = λ c. omega (arith, sent_more c, t.sent c, (w c).sent);
+        pushed_out = λ c. omega (arith, dropped_more c, t.pushed_out c, (w c).pushed);
+        replaced = λ c. omega (arith, coalesced_more c, t.replaced c, (w c).replaced);
+      }
 
 -- ---- a hand-in
 
-module _ (m : Limits) (b : Page) (key : InstanceKey) (bytes : List ℕ) where
-  -- the book grows by what the counts add, where a hand-in to class c meets a fate
-  abbrev Grows : Priority → Fate → Type 0
-  Grows c f = Grown (hand_adds c f) b (handed_by m b c key bytes (fate_number f))
+by_classes : (P : Priority → Type 0) → P P0 → P P1 → P P2 → (c : Priority) → P c
+by_classes P p0 p1 p2 P0 = p0
+by_classes P p0 p1 p2 P1 = p1
+by_classes P p0 p1 p2 P2 = p2
 
-  handed-grown : (c : Priority) → 1 ≤ limit_in m c → Grows c (fate_of m c key (b.queues c).waiting)
-  unfolding fate_of handed_by hand_adds only_at with_queue handed_to keyed_in
-  handed-grown P0 h =
-      by_test (Grows P0) (room_in m.p0 (b.queues P0).waiting)
-      (λ e. record { p0 = wider_joined m.p0 (b.queues P0) _ e; p1 = wider_same (b.queues P1); p2 = wider_same (b.queues P2) })
-      (λ e. record { p0 = wider_same (b.queues P0); p1 = wider_same (b.queues P1); p2 = wider_same (b.queues P2) })
-  handed-grown P1 h =
-      by_test (Grows P1) (room_in m.p1 (b.queues P1).waiting)
-      (λ e. record { p0 = wider_same (b.queues P0); p1 = wider_joined m.p1 (b.queues P1) _ e; p2 = wider_same (b.queues P2) })
-      (λ e. record { p0 = wider_same (b.queues P0); p1 = wider_pushed m.p1 (b.queues P1) _ h e; p2 = wider_same (b.queues P2) })
-  handed-grown P2 h =
-      by_test (Grows P2) (ltb (place_of key (b.queues P2).waiting) (length (b.queues P2).waiting))
+-- a class's lists stay
+abbrev same : (b : Page) (c : Priority) → Wider (b.queues c) (b.queues c) 0 0 0 0
+same b c = wider_same (b.queues c)
+
+module _ (m : Limits) (b : Page) (key : InstanceKey) (bytes : List ℕ) where
+  abbrev pub waiting : Priority → List Held
+  waiting c = (b.queues c).waiting
+
+  -- the page where the record of a hand-in to class c meets a fate
+  abbrev pub handed : Priority → Fate → Page
+  handed c f = handed_by m b c key bytes (fate_number f)
+
+  -- it has the lists that the pacer's queues have; every hand-in uses up a number, and a P2 hand-in one of P2's; and the lists grow by what
+  -- the counts add
+  pub record Handed (c : Priority) (f : Fate) : Type 0 where
+    pub lists : (d : Priority) → with_list waiting c (list_after m c key (waiting c) (record_of b c key bytes)) d ≡ ((handed c f).queues d).waiting
+    pub next : (handed c f).next ≡ b.next + 1
+    pub next_p2 : (handed c f).next_p2 ≡ next_p2_after b c
+    pub grown : 1 ≤ limit_in m c → Grown (hand_adds c f) b (handed c f)
+
+  -- a record taken in joins the book's list as it joins the pacer's
+  taken-lists :
+      (c : Priority) → list_after m c key (waiting c) (record_of b c key bytes) ≡ (handed_to m c key (b.queues c) (record_of b c key bytes)).waiting
+      → (d : Priority) → with_list waiting c (list_after m c key (waiting c) (record_of b c key bytes)) d ≡ ((handed c Joined).queues d).waiting
+  unfolding handed_by
+  taken-lists c e d =
+      ap (λ (xs : List Held). with_list waiting c xs d) e ∙ exchanged-waiting b.queues c (handed_to m c key (b.queues c) (record_of b c key bytes)) d
+
+  p2-lists : (d : Priority) → with_list waiting P2 (list_after m P2 key (waiting P2) (record_of b P2 key bytes)) d ≡ ((handed P2 Joined).queues d).waiting
+  unfolding list_after handed_to joining join_list keyed_in replacing
+  p2-lists = taken-lists P2 (chosen-waiting (ltb (place_of key (waiting P2)) (length (waiting P2))) _ _)
+
+  pub handed_as : (c : Priority) → Handed c (fate_of m c key (waiting c))
+  unfolding fate_of handed_by hand_adds only_at with_queue handed_to keyed_in list_after joining join_list with_list
+  handed_as P0 =
+      by_test (Handed P0) (room_in m.p0 (waiting P0))
       (λ e.
       record {
-        p0 = wider_same (b.queues P0);
-        p1 = wider_same (b.queues P1);
-        p2 = rw e (wider_replaced (place_of key (b.queues P2).waiting) (b.queues P2) _ (ltb-true _ _ e));
+        lists = taken-lists P0 (rw e);
+        next = refl;
+        next_p2 = refl;
+        grown = λ some. by_classes _ (wider_joined m.p0 (b.queues P0) _ e) (same b P1) (same b P2);
       })
       (λ e.
-      by_test (Grows P2) (room_in m.p2 (b.queues P2).waiting)
-      (λ r. record { p0 = wider_same (b.queues P0); p1 = wider_same (b.queues P1); p2 = rw e (wider_joined m.p2 (b.queues P2) _ r) })
-      (λ r. record { p0 = wider_same (b.queues P0); p1 = wider_same (b.queues P1); p2 = rw e (wider_pushed m.p2 (b.queues P2) _ h r) }))
+      record {
+        lists = by_classes _ (rw e) refl refl;
+        next = refl;
+        next_p2 = refl;
+        grown = λ some. by_classes _ (same b P0) (same b P1) (same b P2);
+      })
+  handed_as P1 =
+      by_test (Handed P1) (room_in m.p1 (waiting P1))
+      (λ e.
+      record {
+        lists = taken-lists P1 refl;
+        next = refl;
+        next_p2 = refl;
+        grown = λ some. by_classes _ (same b P0) (wider_joined m.p1 (b.queues P1) _ e) (same b P2);
+      })
+      (λ e.
+      record {
+        lists = taken-lists P1 refl;
+        next = refl;
+        next_p2 = refl;
+        grown = λ some. by_classes _ (same b P0) (wider_pushed m.p1 (b.queues P1) _ some e) (same b P2);
+      })
+  handed_as P2 =
+      by_test (Handed P2) (ltb (place_of key (waiting P2)) (length (waiting P2)))
+      (λ e.
+      record {
+        lists = p2-lists;
+        next = refl;
+        next_p2 = refl;
+        grown = λ some. by_classes _ (same b P0) (same b P1) (rw e (wider_replaced (place_of key (waiting P2)) (b.queues P2) _ (ltb-true _ _ e)));
+      })
+      (λ e.
+      by_test (Handed P2) (room_in m.p2 (waiting P2))
+      (λ r.
+      record {
+        lists = p2-lists;
+        next = refl;
+        next_p2 = refl;
+        grown = λ some. by_classes _ (same b P0) (same b P1) (rw e (wider_joined m.p2 (b.queues P2) _ r));
+      })
+      (λ r.
+      record {
+        lists = p2-lists;
+        next = refl;
+        next_p2 = refl;
+        grown = λ some. by_classes _ (same b P0) (same b P1) (rw e (wider_pushed m.p2 (b.queues P2) _ some r));
+      }))
+
+pub handed_next :
+    (m : Limits) (b : Page) (c : Priority) (key : InstanceKey) (bytes : List ℕ)
+    → (handed_by m b c key bytes (fate_number (fate_of m c key (b.queues c).waiting))).next ≡ b.next + 1
+handed_next m b c key bytes = (handed_as m b key bytes c).next
 
 -- tallies stay through a hand-in
 pub handed_tallied :
-    (m : Limits) (b : Page) (c : Priority) (key : InstanceKey) (bytes : List ℕ) (l l' : List ℕ) (i : ℕ) → IsTallied l i b
-    → ((k : ℕ) → k < 10 → k ≢ 2 → count_in l' i k ≡ count_in l i k + hand_adds c (fate_of m c key (b.queues c).waiting) k)
-    → ((d : Priority) → 1 ≤ limit_in m d)
-    → IsTallied l' i (handed_by m b c key bytes (fate_number (fate_of m c key (b.queues c).waiting)))
-handed_tallied m b c key bytes l l' i t adds some = grown_tallied l l' i b _ _ t adds (handed-grown m b key bytes c (some c))
+    (m : Limits) (b : Page) (c : Priority) (key : InstanceKey) (bytes : List ℕ) (p p' : Pacer) → IsTallied p b
+    → Adds p p' (hand_adds c (fate_of m c key (b.queues c).waiting)) → 1 ≤ limit_in m c
+    → IsTallied p' (handed_by m b c key bytes (fate_number (fate_of m c key (b.queues c).waiting)))
+handed_tallied m b c key bytes p p' t adds some = grown_tallied p p' _ adds b _ t ((handed_as m b key bytes c).grown some)
 
 -- ---- a send attempt
 
@@ -296,26 +294,39 @@ Waits b (RateLimited wait) = Unit {0}
 
 sent_grown : (b : Page) (a : SendAction) → Waits b a → Grown (send_adds a) b (page_after_send b (sent_as a))
 unfolding send_adds only_at with_queue page_after_send
-sent_grown b (Send P0 slot sequence n true) h =
-    record { p0 = wider_taken (b.queues P0) h; p1 = wider_same (b.queues P1); p2 = wider_same (b.queues P2) }
-sent_grown b (Send P0 slot sequence n false) h =
-    record { p0 = wider_taken (b.queues P0) h; p1 = wider_same (b.queues P1); p2 = wider_same (b.queues P2) }
-sent_grown b (Send P1 slot sequence n true) h =
-    record { p0 = wider_same (b.queues P0); p1 = wider_taken (b.queues P1) h; p2 = wider_same (b.queues P2) }
-sent_grown b (Send P1 slot sequence n false) h =
-    record { p0 = wider_same (b.queues P0); p1 = wider_taken (b.queues P1) h; p2 = wider_same (b.queues P2) }
-sent_grown b (Send P2 slot sequence n true) h =
-    record { p0 = wider_same (b.queues P0); p1 = wider_same (b.queues P1); p2 = wider_taken (b.queues P2) h }
-sent_grown b (Send P2 slot sequence n false) h =
-    record { p0 = wider_same (b.queues P0); p1 = wider_same (b.queues P1); p2 = wider_taken (b.queues P2) h }
-sent_grown b Empty h =
-    record { p0 = wider_same (b.queues P0); p1 = wider_same (b.queues P1); p2 = wider_same (b.queues P2) }
-sent_grown b (RateLimited wait) h =
-    record { p0 = wider_same (b.queues P0); p1 = wider_same (b.queues P1); p2 = wider_same (b.queues P2) }
+sent_grown b (Send P0 slot sequence n true) h = by_classes _ (wider_taken (b.queues P0) h) (same b P1) (same b P2)
+sent_grown b (Send P0 slot sequence n false) h = by_classes _ (wider_taken (b.queues P0) h) (same b P1) (same b P2)
+sent_grown b (Send P1 slot sequence n true) h = by_classes _ (same b P0) (wider_taken (b.queues P1) h) (same b P2)
+sent_grown b (Send P1 slot sequence n false) h = by_classes _ (same b P0) (wider_taken (b.queues P1) h) (same b P2)
+sent_grown b (Send P2 slot sequence n true) h = by_classes _ (same b P0) (same b P1) (wider_taken (b.queues P2) h)
+sent_grown b (Send P2 slot sequence n false) h = by_classes _ (same b P0) (same b P1) (wider_taken (b.queues P2) h)
+sent_grown b Empty h = by_classes _ (same b P0) (same b P1) (same b P2)
+sent_grown b (RateLimited wait) h = by_classes _ (same b P0) (same b P1) (same b P2)
 
 -- tallies stay through a send attempt
 pub sent_tallied :
-    (b : Page) (a : SendAction) (l l' : List ℕ) (i : ℕ) → IsTallied l i b
-    → ((k : ℕ) → k < 10 → k ≢ 2 → count_in l' i k ≡ count_in l i k + send_adds a k) → Waits b a
-    → IsTallied l' i (page_after_send b (sent_as a))
-sent_tallied b a l l' i t adds h = grown_tallied l l' i b _ _ t adds (sent_grown b a h)
+    (b : Page) (a : SendAction) (p p' : Pacer) → IsTallied p b → Adds p p' (send_adds a) → Waits b a
+    → IsTallied p' (page_after_send b (sent_as a))
+sent_tallied b a p p' t adds h = grown_tallied p p' _ adds b _ t (sent_grown b a h)
+
+-- ---- pacers that are called on for neither
+
+-- counts that stay
+pub tallied_same : (p p' : Pacer) (b : Page) → metrics_in p' ≡ metrics_in p → IsTallied p b → IsTallied p' b
+tallied_same p p' b same t =
+    record {
+      accepted = λ c. ap (λ (x : WriterPacerMetrics). enqueued_of x c) same ∙ t.accepted c;
+      sent = λ c. ap (λ (x : WriterPacerMetrics). sent_of x c) same ∙ t.sent c;
+      pushed_out = λ c. ap (λ (x : WriterPacerMetrics). dropped_of x c) same ∙ t.pushed_out c;
+      replaced = λ c. ap (λ (x : WriterPacerMetrics). coalesced_of x c) same ∙ t.replaced c;
+    }
+
+-- a new pacer has counted nothing
+pub tallied_new : (time : ℕ) (m : Limits) (rate : ℕ) → IsTallied (made time m rate) empty_page
+tallied_new time m rate =
+    record {
+      accepted = by_classes _ refl refl refl;
+      sent = by_classes _ refl refl refl;
+      pushed_out = by_classes _ refl refl refl;
+      replaced = by_classes _ refl refl refl;
+    }

@@ -2,7 +2,6 @@
 -- from it, and the record for which a wait was told goes once the wait and a nanosecond are over. Assumes nothing.
 use Prim.Native.Nat.{ℕ, ◌+◌, ◌-◌, ◌*◌, ◌^◌, ◌≤◌, ◌<◌, min}
 use mathlib.Core.Bool.{Bool, true, false, true≢false, cond}
-use mathlib.Core.List.{List}
 use mathlib.Core.Logic.{◌≢◌, ◌⊎◌, inl, inr}
 use mathlib.Core.Path.{◌≡◌, refl, sym, ap, subst, ◌∙◌}
 use native.Mathlib.Nat.{mul-le-mul_left}
@@ -13,23 +12,20 @@ use Rattle.config.specs.Config.{class_number}
 use Rattle.config.specs.declared.config.Priority.{Priority}
 use Rattle.config.specs.declared.config.Priority.TheVariants.{P0, P1, P2}
 use Rattle.numeric.proofs.Choice.{by_test}
+use Rattle.queue.specs.Waiting.{has_room}
+use Rattle.queue.specs.declared.entry.InstanceKey.{InstanceKey}
+use Rattle.queue.specs.declared.fate.Kept.{Kept}
+use Rattle.queue.specs.declared.pool.Limits.{Limits}
 use Rattle.pacing.proofs.Credit.{credit-at_most, credit-none, wait_enough}
-use Rattle.pacing.specs.Ring.{slot_at}
 use Rattle.pacing.specs.TokenBucket.{credit, wait_of, earned, refilled, tried, forced, told, rated, resized}
 use Rattle.pacing.specs.TokenBucket as bucket
-use Rattle.pacing.specs.WriterPacer.{ring_of, with_tokens, made, placed_in, enqueue_p0, enqueue_p1, enqueue_p2, enqueue, front_of, send_of, gone, by_p0, by_p1, by_p2, attempt_p0, paid, waited_by, waited, limited, attempt, attempt_by, rate_set, burst_of}
-use Rattle.pacing.specs.declared.coalescing.InstanceKey.{InstanceKey}
-use Rattle.pacing.specs.declared.entries.Entry.{Entry}
-use Rattle.pacing.specs.declared.pool.Limits.{Limits}
+use Rattle.pacing.specs.WriterPacer.{Queues, Pacer, with_tokens, with_counts, waiting_in, slot_in, made, enqueue_p0, enqueue_p1, enqueue_p2, enqueue, handed_in, front_of, send_of, gone, by_p0, by_p1, by_p2, attempt_p0, paid, waited_by, waited, limited, attempt, noted_send, sent_from, sent_if, rate_set, burst_of}
+use Rattle.pacing.specs.declared.pacer_counts.PacerCounts.{PacerCounts}
+use Rattle.pacing.specs.declared.send_action.SendAction.{SendAction}
+use Rattle.pacing.specs.declared.send_action.SendAction.TheVariants.{Send, Empty, RateLimited}
 use Rattle.pacing.specs.declared.token_bucket.TokenBucket.{TokenBucket}
 use Rattle.pacing.specs.declared.token_bucket.Tried.{Tried}
-use Rattle.pacing.specs.declared.writer_pacer.Attempt.{Attempt}
-use Rattle.pacing.specs.declared.writer_pacer.Enqueued.{Enqueued}
 use Rattle.pacing.specs.declared.writer_pacer.PacerConfig.{PacerConfig}
-use Rattle.pacing.specs.declared.writer_pacer.PacerCore.{PacerCore}
-use Rattle.pacing.specs.declared.writer_pacer.Queues.{Queues}
-use Rattle.pacing.specs.declared.writer_pacer.SendAction.{SendAction}
-use Rattle.pacing.specs.declared.writer_pacer.SendAction.TheVariants.{Send, Empty, RateLimited}
 use Rattle.guarantees.specs.Theorem.{paid_as}
 
 -- ---- a bucket as the settings have it
@@ -62,7 +58,7 @@ paced-refilled b time h l =
     (λ e. paced-later h l)
 
 -- a rate setting holds the rate to the settings' least and most
-pub paced-rated : (p : PacerCore) (c : PacerConfig) (time rate last : ℕ)
+pub paced-rated : (p : Pacer) (c : PacerConfig) (time rate last : ℕ)
     → 1 ≤ c.min_rate_bps → c.min_rate_bps ≤ c.max_rate_bps → c.max_rate_bps ≤ 1000000000
     → Paced last p.tokens → last ≤ time → Paced time (rate_set p c time rate).tokens
 unfolding rate_set rated resized
@@ -70,12 +66,11 @@ paced-rated p c time rate last l m u h t =
     record { least = omega arith; most = omega arith; burst = refl; before = (paced-refilled p.tokens time h t).before }
 
 -- a hand-in leaves the tokens
-pub enqueue_tokens : (p : PacerCore) (l : List ℕ) (i : ℕ) (c : Priority) (key : InstanceKey) → (enqueue p l i c key).core.tokens ≡ p.tokens
-unfolding enqueue enqueue_p0 enqueue_p1 enqueue_p2 placed_in
-enqueue_tokens p l i P0 key =
-    by_test (λ (x : Enqueued). x.core.tokens ≡ p.tokens) (ltb p.queues.p0.count p.queues.p0.limit) (λ e. refl) (λ e. refl)
-enqueue_tokens p l i P1 key = refl
-enqueue_tokens p l i P2 key = refl
+pub handed_tokens : (p : Pacer) (c : Priority) (key : InstanceKey) (n : ℕ) → (handed_in p c key n).0.tokens ≡ p.tokens
+unfolding handed_in enqueue enqueue_p0 enqueue_p1 enqueue_p2
+handed_tokens p P0 key n = by_test (λ (x : Pacer × Kept). x.0.tokens ≡ p.tokens) (has_room p.queues.p0) (λ e. refl) (λ e. refl)
+handed_tokens p P1 key n = refl
+handed_tokens p P2 key n = refl
 
 -- ---- what was sent, covered by tokens and time
 
@@ -136,16 +131,16 @@ paced-once {b = b} time h t (inr e) = subst (Paced time) (sym e) (paced-refilled
 -- the class whose first record is paid for or waits, where P0 is empty
 abbrev Next : Queues → Priority → Type 0
 Next q P0 = ⊥
-Next q P1 = 0 < q.p1.count
-Next q P2 = (q.p1.count ≡ 0) × (0 < q.p2.ring.count)
+Next q P1 = 0 < waiting_in q P1
+Next q P2 = (waiting_in q P1 ≡ 0) × (0 < waiting_in q P2)
 
-next-some : (q : Queues) (c : Priority) → Next q c → 0 < (ring_of q c).count
+next-some : (q : Queues) (c : Priority) → Next q c → 0 < waiting_in q c
 next-some q P0 n = absurd n
 next-some q P1 n = n
 next-some q P2 n = n.1
 
 -- no class before it has a record
-next-before : (q : Queues) (c d : Priority) → q.p0.count ≡ 0 → Next q c → class_number d < class_number c → (ring_of q d).count ≡ 0
+next-before : (q : Queues) (c d : Priority) → waiting_in q P0 ≡ 0 → Next q c → class_number d < class_number c → waiting_in q d ≡ 0
 next-before q P0 d e n h = absurd n
 next-before q P1 P0 e n h = e
 next-before q P1 P1 e n h = absurd (omega arith)
@@ -158,22 +153,22 @@ none : (n : ℕ) → ltb 0 n ≡ false → n ≡ 0
 none n e = let h : n ≤ 0 = ltb-false 0 n e in omega arith
 
 -- a wait is told for that class, or nothing waits
-limited_by : (P : Attempt → Type 0) (p : PacerCore) (l : List ℕ) (i time : ℕ)
-    → ((c : Priority) → Next p.queues c → P (waited p time (front_of p.queues l i c).length))
-    → P (record { core = p; action = Empty }) → P (limited p l i time)
+limited_by : (P : Pacer × SendAction → Type 0) (p : Pacer) (time : ℕ)
+    → ((c : Priority) → Next p.queues c → P (waited p time (front_of p.queues c).length))
+    → P ((p, Empty)) → P (limited p time)
 unfolding limited
-limited_by P p l i time f g =
-    by_test P (ltb 0 p.queues.p1.count) (λ e. f P1 (ltb-true _ _ e))
-    (λ e. by_test P (ltb 0 p.queues.p2.ring.count) (λ d. f P2 (none _ e, ltb-true _ _ d)) (λ d. g))
+limited_by P p time f g =
+    by_test P (ltb 0 (waiting_in p.queues P1)) (λ e. f P1 (ltb-true _ _ e))
+    (λ e. by_test P (ltb 0 (waiting_in p.queues P2)) (λ d. f P2 (none _ e, ltb-true _ _ d)) (λ d. g))
 
 -- the wait for what is missing of n tokens
 abbrev wait_for : TokenBucket → ℕ → ℕ
 wait_for b n = wait_of (n - b.tokens) b.rate_bps
 
 -- that wait is told of the bucket refilled, or none
-waited_by_lem : (P : Attempt → Type 0) (p : PacerCore) (time n : ℕ)
+waited_by_lem : (P : Pacer × SendAction → Type 0) (p : Pacer) (time n : ℕ)
     → ((a : SendAction) → (a ≡ Empty) ⊎ (a ≡ RateLimited (wait_for (refilled p.tokens time) n))
-    → P (record { core = with_tokens p (refilled p.tokens time); action = a }))
+    → P ((with_tokens p (refilled p.tokens time), a)))
     → P (waited p time n)
 unfolding waited told
 waited_by_lem P p time n f =
@@ -183,15 +178,15 @@ waited_by_lem P p time n f =
     (λ d. f Empty (inl refl)))
 
 -- what an attempt leaves: the bucket refilled once at most, less what was paid
-record Drawn (b : TokenBucket) (time : ℕ) (x : Attempt) : Type 0 where
+record Drawn (b : TokenBucket) (time : ℕ) (x : Pacer × SendAction) : Type 0 where
   from : TokenBucket
   once : Once b time from
   left : ℕ
-  leaves : x.core.tokens ≡ bucket.with_tokens from left
-  pays : paid_as x.action + left ≤ from.tokens
+  leaves : x.0.tokens ≡ bucket.with_tokens from left
+  pays : paid_as x.1 + left ≤ from.tokens
 
 -- nothing is paid where nothing is sent
-rests : {b : TokenBucket} {time : ℕ} (p : PacerCore) (a : SendAction) → Once b time p.tokens → paid_as a ≡ 0 → Drawn b time (record { core = p; action = a })
+rests : {b : TokenBucket} {time : ℕ} (p : Pacer) (a : SendAction) → Once b time p.tokens → paid_as a ≡ 0 → Drawn b time ((p, a))
 rests p a o z = record { from = p.tokens; once = o; left = p.tokens.tokens; leaves = refl; pays = omega arith }
 
 -- ---- waits told, and records that go
@@ -205,54 +200,52 @@ no_wait : {A : Type 0} {wait : ℕ} (a : SendAction) → is_wait a ≡ false →
 no_wait a e z = absurd (true≢false (sym (ap is_wait z) ∙ e))
 
 -- with control off no wait is told
-pub wait_enabled : (enabled : Bool) (p : PacerCore) (l : List ℕ) (i time wait : ℕ) → (attempt_by enabled p l i time).action ≡ RateLimited wait → enabled ≡ true
-unfolding attempt_by
-wait_enabled true p l i time wait z = refl
-wait_enabled false p l i time wait z = no_wait Empty refl z
+pub wait_enabled : (enabled : Bool) (p : Pacer) (time wait : ℕ) → (sent_if enabled p time).1 ≡ RateLimited wait → enabled ≡ true
+unfolding sent_if
+wait_enabled true p time wait z = refl
+wait_enabled false p time wait z = no_wait Empty refl z
 
 -- what a wait tells: nothing waits in P0, the wait is that for the first of a class, and the bucket alone has changed
-record Awaits (p : PacerCore) (l : List ℕ) (i time wait : ℕ) (x : Attempt) : Type 0 where
+record Awaits (p : Pacer) (time wait : ℕ) (x : Pacer × SendAction) : Type 0 where
   left : TokenBucket
-  leaves : x.core ≡ with_tokens p left
+  leaves : x.0 ≡ with_tokens p left
   paced : Paced time left
-  idle : p.queues.p0.count ≡ 0
+  idle : waiting_in p.queues P0 ≡ 0
   class : Priority
   next : Next p.queues class
-  told_as : wait ≡ wait_for left (front_of p.queues l i class).length
+  told_as : wait ≡ wait_for left (front_of p.queues class).length
 
 -- a class's first is paid for where the tokens are there
-paid-goes : (b : TokenBucket) (q : Queues) (l : List ℕ) (i : ℕ) (c : Priority) (time : ℕ) → 0 < (ring_of q c).count
-    → (front_of q l i c).length ≤ (refilled b time).tokens → (paid b q l i c time).taken ≡ true
+paid-goes : (b : TokenBucket) (q : Queues) (c : Priority) (time : ℕ) → 0 < waiting_in q c
+    → (front_of q c).length ≤ (refilled b time).tokens → (paid b q c time).taken ≡ true
 unfolding paid tried
-paid-goes b q l i c time n m =
-    rw (ne_eqb (ring_of q c).count 0 (λ (z : (ring_of q c).count ≡ 0). omega arith), le-leb (front_of q l i c).length (refilled b time).tokens m) refl
+paid-goes b q c time n m =
+    rw (ne_eqb (waiting_in q c) 0 (λ (z : waiting_in q c ≡ 0). omega arith), le-leb (front_of q c).length (refilled b time).tokens m) refl
 
 -- and an empty queue leaves the bucket
-paid_empty : (b : TokenBucket) (q : Queues) (l : List ℕ) (i : ℕ) (c : Priority) (time : ℕ) → (ring_of q c).count ≡ 0
-    → paid b q l i c time ≡ record { bucket = b; taken = false }
+paid_empty : (b : TokenBucket) (q : Queues) (c : Priority) (time : ℕ) → waiting_in q c ≡ 0
+    → paid b q c time ≡ record { bucket = b; taken = false }
 unfolding paid
-paid_empty b q l i c time n = rw (eq-eqb (ring_of q c).count 0 n) refl
+paid_empty b q c time n = rw (eq-eqb (waiting_in q c) 0 n) refl
 
 -- so the first of the next class goes
-next-goes : (p : PacerCore) (l : List ℕ) (i time : ℕ) (c : Priority) → p.queues.p0.count ≡ 0 → Next p.queues c
-    → (front_of p.queues l i c).length ≤ (refilled p.tokens time).tokens
-    → (attempt p l i time).action ≡ send_of c (slot_at (ring_of p.queues c) 0) (front_of p.queues l i c) false
+next-goes : (p : Pacer) (time : ℕ) (c : Priority) → waiting_in p.queues P0 ≡ 0 → Next p.queues c
+    → (front_of p.queues c).length ≤ (refilled p.tokens time).tokens
+    → (attempt p time).1 ≡ send_of c (slot_in p.queues c 0) (front_of p.queues c) false
 unfolding attempt gone
-next-goes p l i time P0 e n m = absurd n
-next-goes p l i time P1 e n m =
-    rw (le-ltb 0 p.queues.p0.count (omega arith), paid-goes p.tokens p.queues l i P1 time n m) refl
-next-goes p l i time P2 e n m =
-    rw (le-ltb 0 p.queues.p0.count (omega arith), paid_empty p.tokens p.queues l i P1 time n.0, paid-goes p.tokens p.queues l i P2 time n.1 m) refl
+next-goes p time P0 e n m = absurd n
+next-goes p time P1 e n m =
+    rw (le-ltb 0 (waiting_in p.queues P0) (omega arith), paid-goes p.tokens p.queues P1 time n m) refl
+next-goes p time P2 e n m =
+    rw (le-ltb 0 (waiting_in p.queues P0) (omega arith), paid_empty p.tokens p.queues P1 time n.0, paid-goes p.tokens p.queues P2 time n.1 m) refl
 
 -- the first of a class, for which the wait was worked out, goes at a later time
-pub record GoesAt (p q : PacerCore) (l l' : List ℕ) (i wait later : ℕ) : Type 0 where
+pub record GoesAt (p q : Pacer) (wait later : ℕ) : Type 0 where
   pub class : Priority
-  pub some : 0 < (ring_of p.queues class).count
-  pub none_before : (d : Priority) → class_number d < class_number class → (ring_of p.queues d).count ≡ 0
-  pub worked_out : wait ≡ wait_of ((front_of p.queues l i class).length - q.tokens.tokens) q.tokens.rate_bps
-  pub goes :
-      (attempt q l' i later).action
-      ≡ Send class (slot_at (ring_of q.queues class) 0) (front_of p.queues l i class).sequence (front_of p.queues l i class).length false
+  pub some : 0 < waiting_in p.queues class
+  pub none_before : (d : Priority) → class_number d < class_number class → waiting_in p.queues d ≡ 0
+  pub worked_out : wait ≡ wait_of ((front_of p.queues class).length - q.tokens.tokens) q.tokens.rate_bps
+  pub goes : (sent_from q later).1 ≡ send_of class (slot_in q.queues class 0) (front_of p.queues class) false
   pub queues : q.queues ≡ p.queues
 
 -- ---- what the laws of credit and waits give
@@ -325,84 +318,90 @@ tried_by_lem P x time n h o f g =
     (λ e. g (refilled x time) (once-refilled time h o))
 
 -- the same of the first record of a class, whose queue may be empty
-paid_by_lem : {last : ℕ} {b : TokenBucket} (P : Tried → Type 0) (x : TokenBucket) (q : Queues) (l : List ℕ) (i : ℕ) (c : Priority) (time : ℕ) → Paced last b → Once b time x
-    → ((y : TokenBucket) → Once b time y → (front_of q l i c).length ≤ y.tokens → P (record { bucket = bucket.with_tokens y (y.tokens - (front_of q l i c).length); taken = true }))
+paid_by_lem : {last : ℕ} {b : TokenBucket} (P : Tried → Type 0) (x : TokenBucket) (q : Queues) (c : Priority) (time : ℕ) → Paced last b → Once b time x
+    → ((y : TokenBucket) → Once b time y → (front_of q c).length ≤ y.tokens → P (record { bucket = bucket.with_tokens y (y.tokens - (front_of q c).length); taken = true }))
     → ((y : TokenBucket) → Once b time y → P (record { bucket = y; taken = false }))
-    → P (paid x q l i c time)
+    → P (paid x q c time)
 unfolding paid
-paid_by_lem P x q l i c time h o f g =
-    by_test P (eqb (ring_of q c).count 0) (λ e. g x o) (λ e. tried_by_lem P x time (front_of q l i c).length h o f g)
+paid_by_lem P x q c time h o f g =
+    by_test P (eqb (waiting_in q c) 0) (λ e. g x o) (λ e. tried_by_lem P x time (front_of q c).length h o f g)
 
 -- a class's first goes, and its cost of P1 or P2 is taken from the tokens; or none does
-attempt_by_lem : {last : ℕ} (P : Attempt → Type 0) (p : PacerCore) (l : List ℕ) (i time : ℕ) → Paced last p.tokens
+attempt_by_lem : {last : ℕ} (P : Pacer × SendAction → Type 0) (p : Pacer) (time : ℕ) → Paced last p.tokens
     → ((c : Priority) (y : TokenBucket) (left : ℕ) (short : Bool) → Once p.tokens time y
-    → paid_as (send_of c (slot_at (ring_of p.queues c) 0) (front_of p.queues l i c) short) + left ≤ y.tokens
-    → P (gone p l i c (bucket.with_tokens y left) short))
-    → ((y : TokenBucket) → Once p.tokens time y → p.queues.p0.count ≡ 0 → P (limited (with_tokens p y) l i time))
-    → P (attempt p l i time)
+    → paid_as (send_of c (slot_in p.queues c 0) (front_of p.queues c) short) + left ≤ y.tokens
+    → P (gone p c (bucket.with_tokens y left) short))
+    → ((y : TokenBucket) → Once p.tokens time y → waiting_in p.queues P0 ≡ 0 → P (limited (with_tokens p y) time))
+    → P (attempt p time)
 unfolding attempt attempt_p0 forced
-attempt_by_lem P p l i time h f g =
-    by_test P (ltb 0 p.queues.p0.count)
+attempt_by_lem P p time h f g =
+    by_test P (ltb 0 (waiting_in p.queues P0))
     (λ e.
-    tried_by_lem (λ x. P (by_p0 p l i time n₀ x)) p.tokens time n₀ h (inl refl)
+    tried_by_lem (λ x. P (by_p0 p time n₀ x)) p.tokens time n₀ h (inl refl)
     (λ y o m. f P0 y (y.tokens - n₀) false o (omega arith))
     (λ y o. f P0 (refilled y time) ((refilled y time).tokens - n₀) true (once-refilled time h o) (omega arith)))
     (λ e.
-    paid_by_lem (λ x. P (by_p1 p l i time x)) p.tokens p.queues l i P1 time h (inl refl)
-    (λ y o m. f P1 y (y.tokens - (front_of p.queues l i P1).length) false o (omega arith))
+    paid_by_lem (λ x. P (by_p1 p time x)) p.tokens p.queues P1 time h (inl refl)
+    (λ y o m. f P1 y (y.tokens - (front_of p.queues P1).length) false o (omega arith))
     (λ y o.
-    paid_by_lem (λ x. P (by_p2 p l i time x)) y p.queues l i P2 time h o
-    (λ z k m. f P2 z (z.tokens - (front_of p.queues l i P2).length) false k (omega arith))
+    paid_by_lem (λ x. P (by_p2 p time x)) y p.queues P2 time h o
+    (λ z k m. f P2 z (z.tokens - (front_of p.queues P2).length) false k (omega arith))
     (λ z k. g z k (none _ e))))
   where
     n₀ : ℕ
-    n₀ = (front_of p.queues l i P0).length
+    n₀ = (front_of p.queues P0).length
 
-drawn : {last : ℕ} (enabled : Bool) (p : PacerCore) (l : List ℕ) (i time : ℕ) → Paced last p.tokens → Drawn p.tokens time (attempt_by enabled p l i time)
-unfolding attempt_by gone
-drawn enabled p l i time h =
-    by_test D enabled
-    (λ e.
-    attempt_by_lem D p l i time h (λ c y left short o m. record { from = y; once = o; left = left; leaves = refl; pays = m })
+drawn-attempt : {last : ℕ} (p : Pacer) (time : ℕ) → Paced last p.tokens → Drawn p.tokens time (attempt p time)
+unfolding gone
+drawn-attempt p time h =
+    attempt_by_lem D p time h (λ c y left short o m. record { from = y; once = o; left = left; leaves = refl; pays = m })
     (λ y o e.
-    limited_by D (with_tokens p y) l i time
-    (λ c n. waited_by_lem D (with_tokens p y) time (front_of p.queues l i c).length (λ a w. rests _ a (once-refilled time h o) (free a w)))
-    (rests _ Empty o refl)))
-    (λ e. rests p Empty (inl refl) refl)
+    limited_by D (with_tokens p y) time
+    (λ c n. waited_by_lem D (with_tokens p y) time (front_of p.queues c).length (λ a w. rests _ a (once-refilled time h o) (free a w)))
+    (rests _ Empty o refl))
   where
-    D : Attempt → Type 0
+    D : Pacer × SendAction → Type 0
     D = Drawn p.tokens time
 
     free : {wait : ℕ} (a : SendAction) → (a ≡ Empty) ⊎ (a ≡ RateLimited wait) → paid_as a ≡ 0
     free a (inl e) = ap paid_as e
     free a (inr e) = ap paid_as e
 
-pub paced-attempt : (enabled : Bool) (p : PacerCore) (l : List ℕ) (i time last : ℕ) → Paced last p.tokens → last ≤ time
-    → Paced time (attempt_by enabled p l i time).core.tokens
-paced-attempt enabled p l i time last h t =
-    let d : Drawn p.tokens time (attempt_by enabled p l i time) = drawn enabled p l i time h in
+-- counts are no tokens
+drawn-noted : {b : TokenBucket} {time : ℕ} (x : Pacer × SendAction) → Drawn b time x → Drawn b time (noted_send x)
+drawn-noted x d = record { from = d.from; once = d.once; left = d.left; leaves = d.leaves; pays = d.pays }
+
+drawn : {last : ℕ} (enabled : Bool) (p : Pacer) (time : ℕ) → Paced last p.tokens → Drawn p.tokens time (sent_if enabled p time)
+unfolding sent_if sent_from
+drawn enabled p time h =
+    by_test (Drawn p.tokens time) enabled (λ e. drawn-noted (attempt p time) (drawn-attempt p time h)) (λ e. rests p Empty (inl refl) refl)
+
+pub paced-attempt : (enabled : Bool) (p : Pacer) (time last : ℕ) → Paced last p.tokens → last ≤ time
+    → Paced time (sent_if enabled p time).0.tokens
+paced-attempt enabled p time last h t =
+    let d : Drawn p.tokens time (sent_if enabled p time) = drawn enabled p time h in
     subst (Paced time) (sym d.leaves) (paced_tokens d.left (paced-once time h t d.once))
 
 -- an attempt's payment is covered
-pub attempt-allowance : (enabled : Bool) (p : PacerCore) (l : List ℕ) (i time last : ℕ) → Paced last p.tokens → last ≤ time
-    → Covers p.tokens (attempt_by enabled p l i time).core.tokens (paid_as (attempt_by enabled p l i time).action)
-    (refill_of p.tokens (attempt_by enabled p l i time).core.tokens)
-attempt-allowance enabled p l i time last h t =
-    let d : Drawn p.tokens time (attempt_by enabled p l i time) = drawn enabled p l i time h in
-    subst (λ (x : TokenBucket). Covers p.tokens x (paid_as (attempt_by enabled p l i time).action) (refill_of p.tokens x)) (sym d.leaves)
-    (covers_paid d.left (paid_as (attempt_by enabled p l i time).action) (refill_of p.tokens d.from) (covers_once time h t d.once) d.pays)
+pub attempt-allowance : (enabled : Bool) (p : Pacer) (time last : ℕ) → Paced last p.tokens → last ≤ time
+    → Covers p.tokens (sent_if enabled p time).0.tokens (paid_as (sent_if enabled p time).1)
+    (refill_of p.tokens (sent_if enabled p time).0.tokens)
+attempt-allowance enabled p time last h t =
+    let d : Drawn p.tokens time (sent_if enabled p time) = drawn enabled p time h in
+    subst (λ (x : TokenBucket). Covers p.tokens x (paid_as (sent_if enabled p time).1) (refill_of p.tokens x)) (sym d.leaves)
+    (covers_paid d.left (paid_as (sent_if enabled p time).1) (refill_of p.tokens d.from) (covers_once time h t d.once) d.pays)
 
 -- ---- waits
 
-awaits : {last : ℕ} (p : PacerCore) (l : List ℕ) (i time wait : ℕ) → Paced last p.tokens → last ≤ time
-    → (attempt p l i time).action ≡ RateLimited wait → Awaits p l i time wait (attempt p l i time)
+awaits : {last : ℕ} (p : Pacer) (time wait : ℕ) → Paced last p.tokens → last ≤ time
+    → (attempt p time).1 ≡ RateLimited wait → Awaits p time wait (attempt p time)
 unfolding gone
-awaits p l i time wait h t =
-    attempt_by_lem A p l i time h (λ c y left short o m z. no_wait _ refl z)
+awaits p time wait h t =
+    attempt_by_lem A p time h (λ c y left short o m z. no_wait _ refl z)
     (λ y o e.
-    limited_by A (with_tokens p y) l i time
+    limited_by A (with_tokens p y) time
     (λ c n.
-    waited_by_lem A (with_tokens p y) time (front_of p.queues l i c).length
+    waited_by_lem A (with_tokens p y) time (front_of p.queues c).length
     (λ a w z.
     record {
       left = refilled y time;
@@ -415,17 +414,12 @@ awaits p l i time wait h t =
     }))
     (λ z. no_wait Empty refl z))
   where
-    A : Attempt → Type 0
-    A x = x.action ≡ RateLimited wait → Awaits p l i time wait x
+    A : Pacer × SendAction → Type 0
+    A x = x.1 ≡ RateLimited wait → Awaits p time wait x
 
     same : {a : SendAction} {k : ℕ} → (a ≡ Empty) ⊎ (a ≡ RateLimited k) → a ≡ RateLimited wait → wait ≡ k
     same (inl e) z = no_wait Empty refl (sym e ∙ z)
     same (inr e) z = cc
-
--- a wait leaves the queues
-pub wait_queues : (p : PacerCore) (l : List ℕ) (i time last wait : ℕ) → Paced last p.tokens → last ≤ time
-    → (attempt p l i time).action ≡ RateLimited wait → (attempt p l i time).core.queues ≡ p.queues
-wait_queues p l i time last wait h t a = ap (λ (q : PacerCore). q.queues) (awaits p l i time wait h t a).leaves
 
 -- the credit of the wait and a nanosecond is what was missing
 enough : {time : ℕ} (b : TokenBucket) (n later : ℕ) → Paced time b → n ≤ 1472 → later ≤ 2 ^ 62
@@ -439,33 +433,25 @@ enough b n later h m t w =
     earns = wait_enough (n - b.tokens) b.rate_bps (later - b.last_refill) h.least h.most (omega arith) (omega arith) (omega (arith, h.before))
 
 -- the record for which a wait was told goes, once the wait and a nanosecond are over
-pub wait_goes : (p : PacerCore) (l : List ℕ) (i time last wait later : ℕ) (l' : List ℕ) → Paced last p.tokens → last ≤ time → later ≤ 2 ^ 62
-    → ((c : Priority) → 0 < (ring_of p.queues c).count → (front_of p.queues l i c).length ≤ 1472)
-    → (attempt p l i time).action ≡ RateLimited wait → time + wait + 1 ≤ later
-    → ((c : Priority) → front_of (attempt p l i time).core.queues l' i c ≡ front_of p.queues l i c)
-    → GoesAt p (attempt p l i time).core l l' i wait later
-wait_goes p l i time last wait later l' h t u s a w =
-    subst (λ (q : PacerCore). ((c : Priority) → front_of q.queues l' i c ≡ front_of p.queues l i c) → GoesAt p q l l' i wait later) (sym k.leaves) goes_by
+pub wait_goes : (p : Pacer) (time last wait later : ℕ) → Paced last p.tokens → last ≤ time → later ≤ 2 ^ 62
+    → ((c : Priority) → 0 < waiting_in p.queues c → (front_of p.queues c).length ≤ 1472)
+    → (sent_from p time).1 ≡ RateLimited wait → time + wait + 1 ≤ later → GoesAt p (sent_from p time).0 wait later
+unfolding sent_from
+wait_goes p time last wait later h t u s a w =
+    subst (λ (x : Pacer). GoesAt p (with_counts x counts) wait later) (sym k.leaves)
+    (record {
+      class = k.class;
+      some = next-some p.queues k.class k.next;
+      none_before = λ d h. next-before p.queues k.class d k.idle k.next h;
+      worked_out = k.told_as;
+      goes =
+          next-goes (with_counts (with_tokens p k.left) counts) later k.class k.idle k.next
+          (enough k.left (front_of p.queues k.class).length later k.paced (s k.class (next-some p.queues k.class k.next)) u (rw k.told_as at w));
+      queues = refl;
+    })
   where
-    k : Awaits p l i time wait (attempt p l i time)
-    k = awaits p l i time wait h t a
+    k : Awaits p time wait (attempt p time)
+    k = awaits p time wait h t a
 
-    c : Priority
-    c = k.class
-
-    n : 0 < (ring_of p.queues c).count
-    n = next-some p.queues c k.next
-
-    goes_by : ((c : Priority) → front_of p.queues l' i c ≡ front_of p.queues l i c) → GoesAt p (with_tokens p k.left) l l' i wait later
-    goes_by f =
-        record {
-          class = c;
-          some = n;
-          none_before = λ d h. next-before p.queues c d k.idle k.next h;
-          worked_out = k.told_as;
-          goes =
-              next-goes (with_tokens p k.left) l' i later c k.idle k.next
-              (rw (f c) (enough k.left (front_of p.queues l i c).length later k.paced (s c n) u (rw k.told_as at w)))
-              ∙ ap (λ (e : Entry). send_of c (slot_at (ring_of p.queues c) 0) e false) (f c);
-          queues = refl;
-        }
+    counts : PacerCounts
+    counts = (sent_from p time).0.counts

@@ -10,34 +10,30 @@ use lib.ListN.{length, take}
 use Rattle.std.proofs.lemmas.List.{nil_from_length}
 use Rattle.config.specs.Refusal.{accepted}
 use Rattle.config.specs.declared.config.Priority.{Priority}
-use Rattle.pacing.proofs.Records.{Matches}
-use Rattle.pacing.proofs.Rings.{contents_first, slot-below}
-use Rattle.pacing.proofs.Slots.{noted-send, look-noted}
-use Rattle.pacing.specs.Entries.{queue_at, look, no_key}
-use Rattle.pacing.specs.Records.{Held, held, waiting, limit_in, parts_of}
-use Rattle.pacing.specs.Ring.{slot_at, fate_number}
-use Rattle.pacing.specs.WriterPacer.{ring_of, front_of, attempt, attempt_by, send_noted}
-use Rattle.pacing.specs.declared.pool.Limits.{Limits}
-use Rattle.pacing.specs.declared.ring.Fate.{Fate}
-use Rattle.pacing.specs.declared.ring.Fate.TheVariants.{Full, Joined, PushedOut, Replaced}
-use Rattle.pacing.specs.declared.writer_pacer.Attempt.{Attempt}
-use Rattle.pacing.specs.declared.writer_pacer.PacerCore.{PacerCore}
-use Rattle.pacing.specs.declared.writer_pacer.Queues.{Queues}
-use Rattle.pacing.specs.declared.writer_pacer.SendAction.{SendAction}
-use Rattle.pacing.specs.declared.writer_pacer.SendAction.TheVariants.{Empty, RateLimited}
-use Rattle.station.specs.Station.{pacer_in, paced, enqueued_in, attempt_in}
-use Rattle.station.specs.declared.station.Station.{Station}
-use Rattle.guarantees.specs.Book.{Book}
+use Rattle.config.specs.declared.config.Priority.TheVariants.{P0, P1, P2}
+use Rattle.queue.specs.Entries.{no_entry, no_keyed_entry}
+use Rattle.queue.specs.Fates.{fate_number}
+use Rattle.queue.specs.declared.entry.Entry.{Entry}
+use Rattle.queue.specs.declared.fate.Fate.{Fate}
+use Rattle.queue.specs.declared.fate.Fate.TheVariants.{Full, Joined, PushedOut, Replaced}
+use Rattle.queue.specs.declared.pool.Limits.{Limits}
+use Rattle.pacing.proofs.Records.{Matches, length-waiting, get_or-waiting}
+use Rattle.pacing.specs.Records.{Held, nobody, entry_at, held, waiting, parts_of}
+use Rattle.pacing.specs.WriterPacer.{Pacer, waiting_in, slot_in, front_of, send_of, sent_from, sent_if}
+use Rattle.pacing.specs.declared.send_action.SendAction.{SendAction}
+use Rattle.pacing.specs.declared.send_action.SendAction.TheVariants.{Empty, RateLimited}
+use Rattle.station.specs.Station.{Station, pacer_in, paced, enqueued_in, attempt_in}
+use Rattle.guarantees.specs.Book.{Page, Book}
 use Rattle.guarantees.specs.Calls.{Lent, Call, send, Reply, nothing, signal, unchanged, updates, action, Outcome, outcome, State, answered, after, run}
 use Rattle.guarantees.specs.Theorem.{Kept, keep, keeps, bucket_in, AllTurnedDown, HeadGoes}
 use Rattle.guarantees.specs.Theorem as theorem
 use Rattle.guarantees.proofs.Changes.{Timed, Cases, by_case, by_send}
 use Rattle.guarantees.proofs.HandIns.{page_view, count_is}
 use Rattle.guarantees.proofs.Paces.{IsTicking, ticking_run}
-use Rattle.guarantees.proofs.Pages.{SomePool, some_step, kept_to}
+use Rattle.guarantees.proofs.Pages.{first_of, SomePool, some_step, kept_to}
 use Rattle.guarantees.proofs.Rosters.{pacer-same}
 use Rattle.guarantees.proofs.Sound.{IsSound}
-use Rattle.guarantees.proofs.Tokens.{GoesAt, wait_enabled, wait_queues, wait_goes}
+use Rattle.guarantees.proofs.Tokens.{GoesAt, wait_enabled, wait_goes}
 
 -- ---- calls turned down
 
@@ -62,7 +58,7 @@ still_outcome s n x = by_case s n P cases x
           steers = λ x time reply c same q silent h a b. absurd (a refl);
           allots = λ x time c rate is q h a b. absurd (a refl);
           registers = λ time id class h lo a b. absurd (a refl);
-          hands = λ time i c key bytes lent h lo short wide puts a b. absurd (taken_or_full (enqueued_in s i c key).kept.fate a b);
+          hands = λ time i c key bytes lent h lo short wide puts a b. absurd (taken_or_full (enqueued_in s i c key (length bytes)).1.fate a b);
           tries = λ time i lent h lo wide a b. absurd (a refl);
         }
 
@@ -93,8 +89,8 @@ action_in (action a) = a
 record Told (s : Station) (time i wait : ℕ) (t : Station) : Type 0 where
   timed : Timed s time
   seat : i < s.roster.count
-  told : (attempt_in s time i).action ≡ RateLimited wait
-  left : t ≡ paced s time i (attempt_in s time i).core (send_noted s.words i (attempt_in s time i).action)
+  told : (attempt_in s time i).1 ≡ RateLimited wait
+  left : t ≡ paced s time i (attempt_in s time i).0
 
 told_by_lem :
     (s : Station) (n time i : ℕ) (lent : Lent) (wait : ℕ) → (outcome s n (send time i lent)).reply ≡ action (RateLimited wait)
@@ -106,92 +102,80 @@ told_by_lem s n time i lent wait =
 
 -- ---- the record goes
 
+-- a class's first entry stands in place 0 of its queue
+front_is : (p : Pacer) (c : Priority) → front_of p.queues c ≡ (entry_at p.queues c 0).entry
+front_is p P0 = refl
+front_is p P1 = refl
+front_is p P2 = refl
+
+front_short : (m : Limits) (i : ℕ) (p : Pacer) (g : List ℕ) (b : Page) → Matches m i (parts_of p g) (page_view b) → (c : Priority) → 0 < waiting_in p.queues c
+    → (front_of p.queues c).length ≤ 1472
+front_short m i p g b ok P0 some = ok.short.p0 0 no_entry some
+front_short m i p g b ok P1 some = ok.short.p1 0 no_entry some
+front_short m i p g b ok P2 some = ok.short.p2 0 no_keyed_entry some
+
 module _
     (m : Limits) (g : List ℕ) (s : Station) (b : Book) (ok : IsSound m g s b) (tick : IsTicking s) (time i wait : ℕ) (h : Timed s time)
-    (lo : i < s.roster.count) (tells : (attempt_in s time i).action ≡ RateLimited wait)
+    (lo : i < s.roster.count) (tells : (attempt_in s time i).1 ≡ RateLimited wait)
   where
-    abbrev p : PacerCore
+    abbrev p : Pacer
     p = pacer_in s i
 
-    abbrev q : PacerCore
-    q = (attempt_in s time i).core
-
-    abbrev words' : List ℕ
-    words' = send_noted s.words i (attempt_in s time i).action
+    abbrev q : Pacer
+    q = (attempt_in s time i).0
 
     enabled : s.config.pacer.enabled ≡ true
-    enabled = wait_enabled s.config.pacer.enabled p s.words i time wait tells
+    enabled = wait_enabled s.config.pacer.enabled p time wait tells
 
-    tried_is : attempt p s.words i time ≡ attempt_in s time i
-    unfolding attempt_by
-    tried_is = rw enabled
+    -- control is on, so the attempt is the pacer's own
+    own : (r : Pacer) (later : ℕ) → sent_from r later ≡ sent_if s.config.pacer.enabled r later
+    unfolding sent_if
+    own r later = rw enabled refl
 
-    matches : Matches m i (parts_of p s.words g) (page_view (b i))
+    matches : Matches m i (parts_of p g) (page_view (b i))
     matches = ok.pages i lo
 
-    first_below : (c : Priority) → slot_at (ring_of p.queues c) 0 < limit_in m c
-    first_below c = subst (λ (x : ℕ). slot_at (ring_of p.queues c) 0 < x) (matches.limits c) (slot-below (ring_of p.queues c) 0 (matches.rings c))
-
-    fronts_short : (c : Priority) → (front_of p.queues s.words i c).length ≤ 1472
-    unfolding front_of
-    fronts_short c = matches.storage.short c (slot_at (ring_of p.queues c) 0) (first_below c)
-
-    same_queues : q.queues ≡ p.queues
-    same_queues =
-        ap (λ (x : Attempt). x.core.queues) (sym tried_is)
-        ∙ wait_queues p s.words i time s.ledger.last wait (tick.buckets i lo) h.ahead (ap (λ (x : Attempt). x.action) tried_is ∙ tells)
-
-    fronts_same : (c : Priority) → front_of q.queues words' i c ≡ front_of p.queues s.words i c
-    unfolding front_of
-    fronts_same c =
-        ap (λ (x : Queues). look words' (queue_at i c) c (slot_at (ring_of x c) 0)) same_queues
-        ∙ look-noted i s.words words' i c (slot_at (ring_of p.queues c) 0) (noted-send i s.words (attempt_in s time i).action)
-        (omega (arith, first_below c, matches.storage.roomy c))
-
-    goes_at : (later : ℕ) → later ≤ 2 ^ 62 → time + wait + 1 ≤ later → GoesAt p q s.words words' i wait later
+    goes_at : (later : ℕ) → later ≤ 2 ^ 62 → time + wait + 1 ≤ later → GoesAt p q wait later
     goes_at later most past =
-        subst (λ (x : Attempt). ((c : Priority) → front_of x.core.queues words' i c ≡ front_of p.queues s.words i c) → GoesAt p x.core s.words words' i wait later) tried_is
-        (wait_goes p s.words i time s.ledger.last wait later words' (tick.buckets i lo) h.ahead most (λ c some. fronts_short c)
-        (ap (λ (x : Attempt). x.action) tried_is ∙ tells) past)
-        fronts_same
+        subst (λ (x : Pacer × SendAction). GoesAt p x.0 wait later) (own p time)
+        (wait_goes p time s.ledger.last wait later (tick.buckets i lo) h.ahead most (front_short m i p g (b i) matches)
+        (ap (λ (x : Pacer × SendAction). x.1) (own p time) ∙ tells) past)
 
-    -- the first of the page's list is the one in the ring's first slot
+    -- the first of the page's list is the one in the queue's first place
     abbrev head_of : Priority → Held
-    head_of c = held m i c s.words g (slot_at (ring_of p.queues c) 0)
+    head_of c = held m i c p g 0
 
-    first_is : (c : Priority) → 0 < (ring_of p.queues c).count → take 1 ((b i).queues c).waiting ≡ head_of c ∷ []
-    unfolding waiting
+    first_is : (c : Priority) → 0 < waiting_in p.queues c → take 1 ((b i).queues c).waiting ≡ head_of c ∷ []
     first_is c some =
-        ap (take 1) (sym (matches.lists c) ∙ contents_first (held m i c s.words g) (ring_of p.queues c) some)
+        ap (take 1) (sym (matches.lists c)) ∙ first_of (waiting m i c p g) nobody (rw (length-waiting m i p g c) some)
+        ∙ ap (λ (x : Held). x ∷ []) (get_or-waiting m i p g c 0 nobody some)
 
-    head_goes : (later : ℕ) → later ≤ 2 ^ 62 → time + wait + 1 ≤ later → HeadGoes (b i) q.tokens wait (action (attempt q words' i later).action)
-    unfolding held front_of
+    head_goes : (later : ℕ) → later ≤ 2 ^ 62 → time + wait + 1 ≤ later → HeadGoes (b i) q.tokens wait (action (sent_from q later).1)
+    unfolding held
     head_goes later most past =
-        let go : GoesAt p q s.words words' i wait later = goes_at later most past in
+        let go : GoesAt p q wait later = goes_at later most past in
         record {
           class = go.class;
           head = head_of go.class;
           is_first = first_is go.class go.some;
           none_before = λ d lt.
               nil_from_length ((b i).queues d).waiting
-              (sym (count_is m i (parts_of p s.words g) (b i) matches no_key d) ∙ go.none_before d lt);
-          worked_out = go.worked_out;
-          slot = slot_at (ring_of q.queues go.class) 0;
-          goes = ap action go.goes;
+              (sym (count_is m i (parts_of p g) (b i) matches d) ∙ go.none_before d lt);
+          worked_out = rw (front_is p go.class) at go.worked_out;
+          slot = slot_in q.queues go.class 0;
+          goes = ap action go.goes ∙ ap (λ (e : Entry). action (send_of go.class (slot_in q.queues go.class 0) e false)) (front_is p go.class);
         }
 
     -- the station that told the wait, and its bucket
     abbrev left : Station
-    left = paced s time i q words'
+    left = paced s time i q
 
     head-goes-in :
         (later : ℕ) → later ≤ 2 ^ 62 → time + wait + 1 ≤ later
-        → HeadGoes (b i) (pacer_in left i).tokens wait (action (attempt_in left later i).action)
-    unfolding attempt_by
+        → HeadGoes (b i) (pacer_in left i).tokens wait (action (attempt_in left later i).1)
     head-goes-in later most past =
-        subst (λ (x : PacerCore). HeadGoes (b i) x.tokens wait (action (attempt_by s.config.pacer.enabled x words' i later).action))
-        (sym (pacer-same s.roster i q tick.seated lo))
-        (subst (λ (t : Bool). HeadGoes (b i) q.tokens wait (action (attempt_by t q words' i later).action)) (sym enabled) (head_goes later most past))
+        subst (λ (x : Pacer). HeadGoes (b i) x.tokens wait (action (sent_if s.config.pacer.enabled x later).1)) (sym (pacer-same s.roster i q tick.seated lo))
+        (subst (λ (x : Pacer × SendAction). HeadGoes (b i) q.tokens wait (action x.1)) (own q later) (head_goes later most past))
 
 -- ---- lists
 
@@ -212,8 +196,8 @@ module _ (m : Limits) (k : Kept) (ok : SomePool m k) (tick : IsTicking k.state.s
       by_send w.station (length w.pool) later i lent' (λ o. o.answer ≡ 0 → HeadGoes (k.book i) (pacer_in t i).tokens wait o.reply)
       (λ answer z _ e. absurd (z e))
       (λ h lo wide e.
-      subst (λ (x : Station). HeadGoes (k.book i) (pacer_in t i).tokens wait (action (attempt_in x later i).action)) (sym (still_run v between down))
-      (subst (λ (x : Station). HeadGoes (k.book i) (pacer_in x i).tokens wait (action (attempt_in x later i).action)) (sym told.left)
+      subst (λ (x : Station). HeadGoes (k.book i) (pacer_in t i).tokens wait (action (attempt_in x later i).1)) (sym (still_run v between down))
+      (subst (λ (x : Station). HeadGoes (k.book i) (pacer_in x i).tokens wait (action (attempt_in x later i).1)) (sym told.left)
       (head-goes-in m ok.pool s k.book ok.sound tick time i wait told.timed told.seat told.told later h.latest past)))
       taken
     where

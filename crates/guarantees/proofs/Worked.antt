@@ -12,13 +12,12 @@ use Rattle.control.specs.Scorer.{added_if, impulse_of, congested_at, evaluated_s
 use Rattle.control.specs.Scorer as scorer
 use Rattle.numeric.specs.Float.{scaled}
 use Rattle.numeric.specs.Search.{first}
-use Rattle.pacing.specs.Coalescing.{found, inserted, exchanged, insert_noted}
-use Rattle.pacing.specs.Entries.{counted, look, entered, shaped}
-use Rattle.pacing.specs.Pool.{is_short, slot_start, put, stored}
-use Rattle.pacing.specs.Ring.{roomy, next_slot, joins, placed}
+use Rattle.queue.specs.Coalescing.{inserted}
+use Rattle.queue.specs.Pool.{is_short, slot_start, put, stored}
+use Rattle.queue.specs.Waiting.{roomy, joined as joined_to, next_slot, joins}
+use Rattle.pacing.specs.Records.{shaped}
 use Rattle.pacing.specs.TokenBucket.{credit, wait_of, refilled, tried, told}
-use Rattle.pacing.specs.Window.{place_in}
-use Rattle.pacing.specs.WriterPacer.{placed_in, enqueue_p1, enqueue_p2, enqueue, front_of, gone, paid, waited, limited, attempt, hand_in_noted, sent_noted, send_noted, hand_in_written, hand_in_stored, attempt_by, rate_set}
+use Rattle.pacing.specs.WriterPacer.{enqueue_p1, enqueue_p2, enqueue, gone, paid, waited, limited, attempt, hand_in_noted, handed_in, hand_in_stored, send_noted, sent_from, sent_if, rate_set}
 use Rattle.signals.specs.RttEstimator.{any_inflated}
 use Rattle.station.specs.Station.{is_here, joined, with_pacer, left_by, made_by, made_station, register_leaves, registered_station, eagain_station, budgeted, budgeted_all, ticked_station, handed_station, pool_by, pool_handed, sent_station}
 use Rattle.guarantees.specs.Book.{joining, replacing, keyed_in, handed_to, taken_from, with_queue, handed_by, with_page, page_after_send, noted}
@@ -27,9 +26,9 @@ use Rattle.guarantees.specs.Theorem.{keep, keeps}
 use Rattle.guarantees.specs.Worked.{IsWorked, IsTapeWorked}
 
 pub worked : IsWorked
-unfolding of_int of_bits add mul div le to_unsigned not_in_open_closed not_in_open not_in_closed failed_check rates_beyond floats_beyond limit_beyond queues_beyond verdict_of first found inserted exchanged insert_noted counted look entered shaped is_short slot_start put stored roomy next_slot joins placed credit wait_of refilled tried told place_in placed_in enqueue_p1 enqueue_p2 enqueue front_of gone paid waited limited attempt hand_in_noted sent_noted send_noted hand_in_written hand_in_stored attempt_by is_here joined with_pacer left_by made_by made_station register_leaves registered_station handed_station pool_by pool_handed sent_station joining replacing keyed_in handed_to taken_from with_queue handed_by with_page page_after_send noted outcome in_place written after answers keep keeps
+unfolding of_int of_bits add mul div le to_unsigned not_in_open_closed not_in_open not_in_closed failed_check rates_beyond floats_beyond limit_beyond queues_beyond verdict_of first inserted shaped is_short slot_start put stored roomy joined_to next_slot joins credit wait_of refilled tried told enqueue_p1 enqueue_p2 enqueue gone paid waited limited attempt hand_in_noted handed_in hand_in_stored send_noted sent_from sent_if is_here joined with_pacer left_by made_by made_station register_leaves registered_station handed_station pool_by pool_handed sent_station joining replacing keyed_in handed_to taken_from with_queue handed_by with_page page_after_send noted outcome in_place written after answers keep keeps
 worked = (refl, refl, refl, refl, refl, refl)
 
 pub tape_worked : IsTapeWorked
-unfolding scaled of_int of_bits add mul div le to_unsigned is_nan not_in_open_closed not_in_open not_in_closed failed_check rates_beyond floats_beyond limit_beyond queues_beyond verdict_of first is_short rate_set paid limited attempt attempt_by any_inflated comes_before place_of place_for lacking with_row allocator.entered is_known without weighed weights_from share_of reserve_of split_of urgent_part left_from shares_of budget_for with_budget allotted_table registered reallocated new_core controller.on_eagain on_inflated on_window steered core_ticked new_controller registered_in controller_ticked decreased with_params changed_to applied scorer.on_eagain added_if impulse_of congested_at evaluated_stable evaluated ticked is_here joined left_by made_by made_station register_leaves registered_station eagain_station budgeted budgeted_all ticked_station sent_station controlled outcome in_place written after answers
-tape_worked = (refl, refl)
+unfolding scaled of_int of_bits add mul div le to_unsigned is_nan not_in_open_closed not_in_open not_in_closed failed_check rates_beyond floats_beyond limit_beyond queues_beyond verdict_of first is_short rate_set paid limited attempt send_noted sent_from sent_if any_inflated comes_before place_of place_for lacking with_row allocator.entered is_known without weighed weights_from share_of reserve_of split_of urgent_part left_from shares_of budget_for with_budget allotted_table registered reallocated new_core controller.on_eagain on_inflated on_window steered core_ticked new_controller registered_in controller_ticked decreased with_params changed_to applied scorer.on_eagain added_if impulse_of congested_at evaluated_stable evaluated ticked is_here joined left_by made_by made_station register_leaves registered_station eagain_station budgeted budgeted_all ticked_station sent_station controlled outcome in_place written after answers
+tape_worked = (refl, refl, refl)

@@ -5,13 +5,11 @@ use Rattle.config.specs.Config.{class_number}
 use Rattle.config.specs.Refusal.{accepted, queue_full}
 use Rattle.config.specs.declared.config.Priority.{Priority}
 use Rattle.config.specs.declared.config.Priority.TheVariants.{P0, P1, P2}
-use Rattle.pacing.specs.Entries.{entry_of, shaped}
-use Rattle.pacing.specs.Records.{Held, held_of, keyed}
-use Rattle.pacing.specs.Window.{place_in}
-use Rattle.pacing.specs.declared.coalescing.InstanceKey.{InstanceKey}
-use Rattle.pacing.specs.declared.pool.Limits.{Limits}
-use Rattle.pacing.specs.declared.writer_pacer.SendAction.{SendAction}
-use Rattle.pacing.specs.declared.writer_pacer.SendAction.TheVariants.{Send, Empty, RateLimited}
+use Rattle.queue.specs.declared.entry.InstanceKey.{InstanceKey}
+use Rattle.queue.specs.declared.pool.Limits.{Limits}
+use Rattle.pacing.specs.Records.{Held, record_as, place_of}
+use Rattle.pacing.specs.declared.send_action.SendAction.{SendAction}
+use Rattle.pacing.specs.declared.send_action.SendAction.TheVariants.{Send, Empty, RateLimited}
 use Rattle.guarantees.specs.Calls.{Call, register, control, hand_in, send, Reply, nothing, signal, unchanged, updates, action}
 
 -- ---- one list of the book
@@ -47,10 +45,7 @@ replacing place q x =
     queue_of (q.accepted ++ (x ∷ [])) (set q.waiting place x) q.sent q.pushed_out
     (q.replaced ++ take 1 (drop place q.waiting))
 
--- the place of the first record listed under the key, or the list's length
-abbrev pub place_of : InstanceKey → List Held → ℕ
-place_of key xs = place_in (keyed key) xs
-
+-- the first record that is listed under the key gives way to it, if there is one
 unfoldable pub keyed_in : ℕ → InstanceKey → Queue → Held → Queue
 keyed_in limit key q x =
     cond (ltb (place_of key q.waiting) (length q.waiting)) (replacing (place_of key q.waiting) q x) (joining limit q x)
@@ -94,7 +89,7 @@ next_p2_after b P2 = b.next_p2 + 1
 
 -- "A hand-in answered 0 takes its counter's next number as sequence"
 abbrev pub record_of : Page → Priority → InstanceKey → List ℕ → Held
-record_of b c key bytes = held_of (shaped c (entry_of (sequence_of b c) (length bytes) key)) bytes
+record_of b c key bytes = record_as c (sequence_of b c) key bytes
 
 abbrev pub page_handed : Limits → Page → Priority → InstanceKey → List ℕ → Page
 page_handed m b c key bytes =

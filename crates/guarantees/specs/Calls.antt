@@ -6,14 +6,13 @@ use Rattle.config.specs.declared.config.Priority.{Priority}
 use Rattle.config.specs.declared.refusal.Refusal.{Refusal}
 use Rattle.control.specs.BudgetAllocator.{writers_of}
 use Rattle.control.specs.declared.budget_allocator.WriterInfo.{WriterInfo}
-use Rattle.pacing.specs.Pool.{is_short}
-use Rattle.pacing.specs.Ring.{fate_number}
+use Rattle.queue.specs.Fates.{fate_number}
+use Rattle.queue.specs.Pool.{is_short}
+use Rattle.queue.specs.declared.entry.InstanceKey.{InstanceKey}
+use Rattle.queue.specs.declared.fate.Fate.{Fate}
 use Rattle.pacing.specs.WriterPacer.{action_number}
-use Rattle.pacing.specs.declared.coalescing.InstanceKey.{InstanceKey}
-use Rattle.pacing.specs.declared.ring.Fate.{Fate}
-use Rattle.pacing.specs.declared.writer_pacer.SendAction.{SendAction}
-use Rattle.station.specs.Station.{limits_in, slots_needed, registered_station, eagain_station, nacks_station, tos_station, rtt_station, ticked_station, rated_station, handed_station, pool_handed, sent_station, shown_bytes}
-use Rattle.station.specs.declared.station.Station.{Station}
+use Rattle.pacing.specs.declared.send_action.SendAction.{SendAction}
+use Rattle.station.specs.Station.{Station, limits_in, slots_needed, registered_station, eagain_station, nacks_station, tos_station, rtt_station, ticked_station, rated_station, handed_station, pool_handed, sent_station, shown_bytes}
 
 -- ---- calls
 

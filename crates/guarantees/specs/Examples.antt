@@ -7,6 +7,7 @@ use Rattle.std.specs.Result.{result_unwrap_or}
 use Rattle.config.specs.Config.{defaults}
 use Rattle.config.specs.Ledger.{opened}
 use Rattle.config.specs.Refusal.{accepted, none_number, result_number}
+use Rattle.config.specs.declared.alone.Alone.{Alone}
 use Rattle.config.specs.declared.alone.Left.{Left as CallLeft}
 use Rattle.config.specs.declared.config.Priority.{Priority}
 use Rattle.config.specs.declared.config.Priority.TheVariants.{P0, P1, P2}
@@ -14,27 +15,27 @@ use Rattle.control.specs.BudgetAllocator.{allocation_config_of}
 use Rattle.control.specs.ControllerAlone.{made_of, eagain_alone, sampled_alone, ticked_alone}
 use Rattle.control.specs.RateController.{params_of}
 use Rattle.control.specs.Scorer.{scorer_config_of}
-use Rattle.control.specs.declared.controller.CongestionControllerAlone.{CongestionControllerAlone}
 use Rattle.control.specs.declared.controller.ControllerConfig.{ControllerConfig}
 use Rattle.control.specs.declared.controller.ControllerCore.{ControllerCore}
+use Rattle.control.specs.declared.controller_alone.ConfiguredCongestion.{ConfiguredCongestion}
 use Rattle.control.specs.declared.rate_controller.RateParams.{RateParams}
-use Rattle.pacing.specs.Coalescing.{fnv1a}
-use Rattle.pacing.specs.Pool.{bytes_of, slots_of}
-use Rattle.pacing.specs.Ring.{fate_number}
+use Rattle.queue.specs.Coalescing.{fnv1a}
+use Rattle.queue.specs.Fates.{fate_number}
+use Rattle.queue.specs.Pool.{bytes_of, slots_of}
+use Rattle.queue.specs.declared.entry.InstanceKey.{InstanceKey}
+use Rattle.queue.specs.declared.pool.Limits.{Limits}
 use Rattle.pacing.specs.TokenBucket.{made, refilled, tried, told}
 use Rattle.pacing.specs.WriterPacer as pacing
 use Rattle.pacing.specs.WriterPacerAlone.{pacer_alone_of, handed_alone, sent_alone}
-use Rattle.pacing.specs.declared.coalescing.InstanceKey.{InstanceKey}
-use Rattle.pacing.specs.declared.pool.Limits.{Limits}
 use Rattle.pacing.specs.declared.token_bucket.TokenBucket.{TokenBucket}
-use Rattle.pacing.specs.declared.writer_pacer.SendAction.{SendAction}
-use Rattle.pacing.specs.declared.writer_pacer.SendAction.TheVariants.{Empty}
-use Rattle.pacing.specs.declared.writer_pacer.WriterPacerAlone.{WriterPacerAlone}
+use Rattle.pacing.specs.declared.send_action.SendAction.{SendAction}
+use Rattle.pacing.specs.declared.send_action.SendAction.TheVariants.{Empty}
+use Rattle.pacing.specs.declared.writer_pacer_alone.WriterPacerAlone.{WriterPacerAlone}
 use Rattle.signals.specs.Ecn.{codepoint_of, new_processor, processed_tos}
 use Rattle.signals.specs.RttEstimator.{new_estimator, updated, rto_of}
 use Rattle.signals.specs.declared.ecn.EcnCodepoint.{EcnCodepoint}
 use Rattle.signals.specs.declared.ecn.EcnCodepoint.TheVariants.{NotEct, Ect0}
-use Rattle.signals.specs.declared.ecn.Processed.{Processed}
+use Rattle.signals.specs.declared.ecn.EcnProcessor.{EcnProcessor}
 use Rattle.signals.specs.declared.rtt_estimator.RttEstimator.{RttEstimator}
 
 -- ---- what a row gives and what it gets
@@ -111,9 +112,9 @@ sampled e (x ∷ rest) = sampled (updated e 0 x) rest
 abbrev shown : RttEstimator → Result
 shown e = round_trip e.rtt_ms e.rtt_var_ms (rto_of e)
 
-abbrev received : Processed → List ℕ → Bool
-received p [] = p.signal
-received p (x ∷ rest) = received (processed_tos p.processor x) rest
+abbrev received : EcnProcessor × Bool → List ℕ → Bool
+received p [] = p.1
+received p (x ∷ rest) = received (processed_tos p.0 x) rest
 
 -- the bucket after a step, and what the step leaves to see
 abbrev stepped : TokenBucket → Step → TokenBucket
@@ -136,7 +137,6 @@ limits_of p0 p1 p2 = record { p0 = p0; p1 = p1; p2 = p2 }
 abbrev new_pacer : Limits → ℕ → WriterPacerAlone
 new_pacer m r =
     pacer_alone_of (opened 0) (record { enabled = true; min_rate_bps = 1; max_rate_bps = 1000000000; limits = m }) (pacing.made 0 m r)
-    (replicate 1805 0)
 
 -- a pool that is just long enough
 abbrev pool_bytes : WriterPacerAlone → ℕ
@@ -171,31 +171,31 @@ config_with p =
     }
 
 -- what a call leaves, and what it answers
-abbrev turned : CongestionControllerAlone → Turn → CongestionControllerAlone
+abbrev turned : Alone ConfiguredCongestion → Turn → Alone ConfiguredCongestion
 turned a eagain = (eagain_alone a).state
 turned a (sample time x) = (sampled_alone a time 1 x).state
 turned a (tick time) = (ticked_alone a time).state
 
-abbrev tick_seen : CallLeft CongestionControllerAlone Bool → ControllerCore → Turned
+abbrev tick_seen : CallLeft (Alone ConfiguredCongestion) Bool → ControllerCore → Turned
 tick_seen x k =
     ticked (result_number (λ b. accepted) x.answer) (result_unwrap_or x.answer false) (to_bits binary32 k.scorer.score)
     k.rate_controller.metrics.decreases_soft
     k.rate_controller.metrics.decreases_hard
     k.rate_controller.current_rate
 
-abbrev turn_seen : CongestionControllerAlone → Turn → Turned
+abbrev turn_seen : Alone ConfiguredCongestion → Turn → Turned
 turn_seen a eagain = noted (result_number none_number (eagain_alone a).answer)
 turn_seen a (sample time x) = noted (result_number none_number (sampled_alone a time 1 x).answer)
-turn_seen a (tick time) = tick_seen (ticked_alone a time) (ticked_alone a time).state.controller.core
+turn_seen a (tick time) = tick_seen (ticked_alone a time) (ticked_alone a time).state.inner.controller.core
 
-abbrev steered : CongestionControllerAlone → List Turn → List Turned
+abbrev steered : Alone ConfiguredCongestion → List Turn → List Turned
 steered a [] = []
 steered a (t ∷ rest) = turn_seen a t ∷ steered (turned a t) rest
 
 abbrev pub outcome : Input → Result
 outcome (rate n) = float (of_int binary32 (pos n))
 outcome (samples xs) = shown (sampled (new_estimator (fin false 25 (pos 2))) xs)
-outcome (packets xs) = signals (received (record { processor = new_processor; signal = false }) xs)
+outcome (packets xs) = signals (received (new_processor, false) xs)
 outcome (tos x) = codepoint (codepoint_of x)
 outcome (bytes xs) = hash (fnv1a xs)
 outcome (bucket r n xs) = steps (walked (made 0 r n) xs)

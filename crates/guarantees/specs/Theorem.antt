@@ -8,21 +8,19 @@ use Rattle.config.specs.declared.config.CongestionConfig.{CongestionConfig}
 use Rattle.config.specs.declared.config.Priority.{Priority}
 use Rattle.config.specs.declared.config.Priority.TheVariants.{P0, P1, P2}
 use Rattle.control.specs.declared.budget_allocator.WriterInfo.{WriterInfo}
-use Rattle.pacing.specs.Entries.{queue_at, look}
-use Rattle.pacing.specs.Pool.{is_short, limits_of, slot_start}
+use Rattle.queue.specs.Pool.{is_short, limits_of, slot_start}
+use Rattle.queue.specs.declared.entry.InstanceKey.{InstanceKey}
+use Rattle.queue.specs.declared.entry.KeyedEntry.{KeyedEntry}
+use Rattle.queue.specs.declared.pool.Limits.{Limits}
+use Rattle.pacing.specs.Counts.{count_in}
 use Rattle.pacing.specs.Records.{Held, waiting}
 use Rattle.pacing.specs.TokenBucket.{wait_of}
-use Rattle.pacing.specs.Window.{contents}
-use Rattle.pacing.specs.WriterPacer.{ring_of, count_in, metrics_in, rate_of}
-use Rattle.pacing.specs.declared.coalescing.InstanceKey.{InstanceKey}
-use Rattle.pacing.specs.declared.entries.Entry.{Entry}
-use Rattle.pacing.specs.declared.pool.Limits.{Limits}
+use Rattle.pacing.specs.WriterPacer.{waiting_in, entries_in, metrics_in, rate_of}
 use Rattle.pacing.specs.declared.token_bucket.TokenBucket.{TokenBucket}
-use Rattle.pacing.specs.declared.writer_pacer.SendAction.{SendAction}
-use Rattle.pacing.specs.declared.writer_pacer.SendAction.TheVariants.{Send, Empty, RateLimited}
-use Rattle.pacing.specs.declared.writer_pacer.WriterPacerMetrics.{WriterPacerMetrics}
-use Rattle.station.specs.Station.{writer_at, pacer_in, limits_in, slots_needed, made_station, enqueued_in}
-use Rattle.station.specs.declared.station.Station.{Station}
+use Rattle.pacing.specs.declared.send_action.SendAction.{SendAction}
+use Rattle.pacing.specs.declared.send_action.SendAction.TheVariants.{Send, Empty, RateLimited}
+use Rattle.pacing.specs.declared.pacer_counts.WriterPacerMetrics.{WriterPacerMetrics}
+use Rattle.station.specs.Station.{Station, writer_at, pacer_in, limits_in, slots_needed, made_station, enqueued_in}
 use Rattle.guarantees.specs.Book.{Queue, Page, Book, empty_page, empty_book, noted, sent_in}
 use Rattle.guarantees.specs.Calls.{Lent, owed, instead, Call, register, control, hand_in, send, Reply, nothing, signal, unchanged, updates, action, Outcome, shown_by, State, state_of, in_place, lent_in, answered, after, run, answers}
 
@@ -63,7 +61,7 @@ weigh w (x ∷ xs) = w x + weigh w xs
 
 -- 1 for a record with the sequence number n, 0 for another
 unfoldable pub numbered : ℕ → Held → ℕ
-numbered n x = cond (eqb x.entry.sequence n) 1 0
+numbered n x = cond (eqb x.entry.entry.sequence n) 1 0
 
 -- how often the number n stands under a fate
 unfoldable pub fates : ℕ → Queue → ℕ
@@ -73,7 +71,7 @@ fates n q =
 -- each accepted record has exactly one fate in the book
 pub record HasOneFate (q : Queue) : Type 0 where
   -- its number stands once among the four
-  pub exactly_one : (x : Held) → Memᴰ x q.accepted → fates x.entry.sequence q ≡ 1
+  pub exactly_one : (x : Held) → Memᴰ x q.accepted → fates x.entry.entry.sequence q ≡ 1
   -- whatever is summed over the records, length and bytes too, the four together have what was accepted
   pub whole : (w : Held → ℕ) → weigh w q.accepted ≡ weigh w q.sent + weigh w q.pushed_out + weigh w q.replaced + weigh w q.waiting
   -- accepted = sent + pushed out + replaced + waiting
@@ -101,14 +99,15 @@ coalesced_of x P1 = 0
 coalesced_of x P2 = x.coalesced_p2
 
 abbrev pub metrics_of : Station → ℕ → WriterPacerMetrics
-metrics_of s i = metrics_in s.words i
+metrics_of s i = metrics_in (pacer_in s i)
 
+-- how many records wait in a ring
 abbrev pub ring_in : Station → ℕ → Priority → ℕ
-ring_in s i c = (ring_of (pacer_in s i).queues c).count
+ring_in s i c = waiting_in (pacer_in s i).queues c
 
 -- what a ring holds, in order: sequence, length and P2's key
-unfoldable pub queued : Station → ℕ → Priority → List Entry
-queued s i c = contents (look s.words (queue_at i c) c) (ring_of (pacer_in s i).queues c)
+abbrev pub queued : Station → ℕ → Priority → List KeyedEntry
+queued s i c = entries_in (pacer_in s i).queues c
 
 -- "after every call each ring holds its list in order: sequence, length, P2's key", and the station's own counts are the book's
 pub record Matched (s : Station) (i : ℕ) (c : Priority) (q : Queue) : Type 0 where
@@ -128,15 +127,15 @@ pub record IsFated (k : Kept) : Type 0 where
   pub one-fate : (i : ℕ) (c : Priority) → HasOneFate ((k.book i).queues c)
   pub matched : (i : ℕ) → i < k.state.station.roster.count → (c : Priority) → Matched k.state.station i c ((k.book i).queues c)
   pub unregistered : (i : ℕ) → k.state.station.roster.count ≤ i → k.book i ≡ empty_page
-  -- no count of a pacer has reached its largest value, so that each is exact; n as over `count_at`, where 2, P2's waiting bytes, is no count
-  pub exact : (i n : ℕ) → i < k.state.station.roster.count → n < 13 → n ≢ 2 → count_in k.state.station.words i n < 18446744073709551615
+  -- no count of a pacer has reached its largest value, so that each is exact; n as over `counts_of`, where 2, P2's waiting bytes, is no count
+  pub exact : (i n : ℕ) → i < k.state.station.roster.count → n < 13 → n ≢ 2 → count_in (pacer_in k.state.station i) n < 18446744073709551615
 
 -- "each `sent` shows that first's sequence, length and bytes"
 pub record FirstIs (xs : List Held) (sequence n : ℕ) : Type 0 where
   pub first : Held
   pub is_first : take 1 xs ≡ first ∷ []
-  pub sequence_is : first.entry.sequence ≡ sequence
-  pub length_is : first.entry.length ≡ n
+  pub sequence_is : first.entry.entry.sequence ≡ sequence
+  pub length_is : first.entry.entry.length ≡ n
 
 abbrev pub ActionShows : Page → SendAction → Type 0
 ActionShows b (Send c slot sequence n forced) = FirstIs (b.queues c).waiting sequence n
@@ -164,7 +163,7 @@ IsShown k x = Sends (λ i. ReplyShows (k.book i) (answered k.state x).reply) x
 abbrev pub HoldsBytes : Kept → Type 0
 HoldsBytes k =
     (i : ℕ) → i < k.state.station.roster.count → (c : Priority)
-    → waiting (limits_in k.state.station) i c (pacer_in k.state.station i) k.state.station.words k.state.pool
+    → waiting (limits_in k.state.station) i c (pacer_in k.state.station i) k.state.pool
     ≡ ((k.book i).queues c).waiting
 
 abbrev pub FirstBytes : Page → List ℕ → Reply → Type 0
@@ -324,9 +323,9 @@ pub record HeadGoes (b : Page) (bucket : TokenBucket) (wait : ℕ) (reply : Repl
   pub head : Held
   pub is_first : take 1 (b.queues class).waiting ≡ head ∷ []
   pub none_before : (d : Priority) → class_number d < class_number class → (b.queues d).waiting ≡ []
-  pub worked_out : wait ≡ wait_of (head.entry.length - bucket.tokens) bucket.rate_bps
+  pub worked_out : wait ≡ wait_of (head.entry.entry.length - bucket.tokens) bucket.rate_bps
   pub slot : ℕ
-  pub goes : reply ≡ action (Send class slot head.entry.sequence head.entry.length false)
+  pub goes : reply ≡ action (Send class slot head.entry.entry.sequence head.entry.entry.length false)
 
 -- where a wait was told and the next accepted call is that pacer's send attempt a nanosecond or more after it, the head goes for which it
 -- was told; calls that are turned down may lie between
@@ -368,9 +367,9 @@ LentSame k s (instead pool) owed = Unit {0}
 LentSame k s owed (instead pool') = Unit {0}
 LentSame k s owed owed = Unit {0}
 
--- where a hand-in of the station puts the record's first byte
-abbrev pub put_at : Station → ℕ → Priority → InstanceKey → ℕ
-put_at s i c key = slot_start (limits_in s) i c (enqueued_in s i c key).kept.slot
+-- where a hand-in of n bytes to the station puts the record's first byte
+abbrev pub put_at : Station → ℕ → Priority → InstanceKey → ℕ → ℕ
+put_at s i c key n = slot_start (limits_in s) i c (enqueued_in s i c key n).1.slot
 
 -- the bytes of the record that a call hands in
 abbrev pub bytes_in : Call → List ℕ
@@ -385,7 +384,7 @@ PutSame k s (register time id class) y = Unit {0}
 PutSame k s (control time steering) y = Unit {0}
 PutSame k s (hand_in time i c key bytes lent) y =
     (answered s (hand_in time i c key bytes lent)).answer ≡ accepted
-    → (j : ℕ) → j < length bytes → k ≡ put_at s.station i c key + j → get_or bytes j 0 ≡ get_or (bytes_in y) j 0
+    → (j : ℕ) → j < length bytes → k ≡ put_at s.station i c key (length bytes) + j → get_or bytes j 0 ≡ get_or (bytes_in y) j 0
 PutSame k s (send time i lent) y = Unit {0}
 
 -- no call of two lists brings bytes that differ to place k
@@ -419,8 +418,8 @@ pub record Demand3 (c : CongestionConfig) (s : Station) (pool : List ℕ) (calls
   pub waits : Waits (limits_of c) (started s pool) calls
   pub contents : Contents (started s pool).state calls
 
--- for every settings that make a station, every time of its making, every pool, and every list of calls
+-- for every number of slots of the queues, every settings that make a station, every time of its making, every pool, and every list of calls
 abbrev pub Theorem : Type 0
 Theorem =
-    (c : CongestionConfig) (time : ℕ) (pool : List ℕ) (s : Station) → made_station c time ≡ Ok s → (calls : List Call)
+    (N0 N1 N2 : ℕ) (c : CongestionConfig) (time : ℕ) (pool : List ℕ) (s : Station) → made_station N0 N1 N2 c time ≡ Ok s → (calls : List Call)
     → Demand3 c s pool calls

@@ -6,13 +6,12 @@ use Rattle.config.specs.declared.config.CongestionConfig.{CongestionConfig}
 use Rattle.config.specs.declared.config.EcnMode.TheVariants.{Opportunistic}
 use Rattle.config.specs.declared.config.Priority.TheVariants.{P0, P1, P2}
 use Rattle.control.specs.declared.budget_allocator.WriterInfo.{WriterInfo}
-use Rattle.pacing.specs.Entries.{key_of_hashes, no_key}
-use Rattle.pacing.specs.Pool.{bytes_of, limits_of}
+use Rattle.queue.specs.Entries.{key_of_hashes, no_key}
+use Rattle.queue.specs.Pool.{bytes_of, limits_of}
+use Rattle.queue.specs.declared.entry.InstanceKey.{InstanceKey}
 use Rattle.pacing.specs.Records.{Held}
 use Rattle.pacing.specs.WriterPacer.{action_values}
-use Rattle.pacing.specs.declared.coalescing.InstanceKey.{InstanceKey}
-use Rattle.station.specs.Station.{slots_needed, station_config_of, new_station, made_station}
-use Rattle.station.specs.declared.station.Station.{Station}
+use Rattle.station.specs.Station.{Station, slots_needed, station_config_of, new_station, made_station}
 use Rattle.guarantees.specs.Book.{Queue, Page}
 use Rattle.guarantees.specs.Calls.{owed, eagain, tick, Call, register, control, hand_in, send, Reply, nothing, signal, unchanged, updates, action, Answer, answers}
 use Rattle.guarantees.specs.Theorem.{Kept, keeps, started}
@@ -121,7 +120,7 @@ pub record Lists : Type 0 where
   pub replaced : List ℕ
 
 abbrev pub numbers_of : List Held → List ℕ
-numbers_of xs = map (λ (x : Held). x.entry.sequence) xs
+numbers_of xs = map (λ (x : Held). x.entry.entry.sequence) xs
 
 abbrev pub lists_of : Queue → Lists
 lists_of q =
@@ -153,7 +152,7 @@ page = (keeps (limits_of settings) start calls).book 0
 -- the making's answer, each call's answer, each class's lists, and the bytes of the one record that waits in P2: the newer one's
 abbrev pub IsWorked : Type 0
 IsWorked =
-    (made_station settings 0 ≡ Ok station)
+    (made_station 128 512 128 settings 0 ≡ Ok station)
     × (map seen_of (answers start.state calls) ≡ expected)
     × (lists_of (page.queues P0) ≡ expected_p0)
     × (lists_of (page.queues P1) ≡ expected_p1)
@@ -182,6 +181,9 @@ abbrev pub tape_expected : List Seen
 tape_expected =
     seen 0 [] ∷ seen 0 [] ∷ seen 0 [] ∷ seen 0 (1 ∷ 0 ∷ 10000000 ∷ 2 ∷ 0 ∷ 28000000 ∷ []) ∷ seen 0 [] ∷ []
 
+-- the making's answer, whether the queues have the most slots or the tape's own number of them, and each call's answer
 abbrev pub IsTapeWorked : Type 0
 IsTapeWorked =
-    (made_station tape_settings 0 ≡ Ok tape_station) × (map seen_of (answers tape_start.state tape_calls) ≡ tape_expected)
+    (made_station 128 512 128 tape_settings 0 ≡ Ok tape_station)
+    × (made_station 2 4 2 tape_settings 0 ≡ Ok tape_station)
+    × (map seen_of (answers tape_start.state tape_calls) ≡ tape_expected)

@@ -1,13 +1,6 @@
 -- Products of numbers in two halves, with the half's size as a parameter. Assumes nothing.
-use Rattle.std.proofs.Common.{◌≡◌, ℕ, ◌+◌, ◌*◌, ◌/◌, ◌%◌, ◌^◌, ◌<◌, sym, ap, ◌∙◌, lt_of_le_of_lt, le_of_lt, add_assoc, mul_assoc, mul_comm, add-mul, mul-le-mul_left, mul-lt-mul_of_pos_right, div-add-mod', mul-add, mul_left_comm, pow_pos, pow-add}
-use mathlib.Core.Path.{subst⁻¹}
+use Rattle.std.proofs.Common.{◌≡◌, ℕ, ◌+◌, ◌*◌, ◌/◌, ◌%◌, sym, ap, ◌∙◌, add_assoc, mul_assoc, mul_comm, add-mul, div-add-mod', mul-add, mul_left_comm}
 use native.Mathlib.Nat.{add-mod, mul-add-mod_self_right}
-
--- a product of two numbers of k binary digits has at most twice as many
-pub product-below : (k : ℕ) {a b : ℕ} → a < 2 ^ k → b < 2 ^ k → a * b < 2 ^ (k + k)
-product-below k {a} {b} ha hb =
-    subst⁻¹ (λ (n : ℕ). a * b < n) (pow-add 2 k k)
-    (lt_of_le_of_lt (mul-le-mul_left a (le_of_lt hb)) (mul-lt-mul_of_pos_right ha (pow_pos k)))
 
 -- the product of two numbers in halves, as the four products of their halves
 in_halves : (B a1 a0 b1 b0 : ℕ) → (a1 * B + a0) * (b1 * B + b0) ≡ a1 * b1 * (B * B) + ((a1 * b0 + a0 * b1) * B + a0 * b0)

@@ -1,33 +1,22 @@
-// Conversions between integers and floats, bit patterns, and f32's max, clamp and absolute value.
-// Stays: the conversions, max, clamp and absolute value are worked out here and not taken from std, as the project's scope asks: "Rust's `as` from integer to
-// f32 rounds to nearest, ties to even; from float to integer it truncates. Both are worked out here, as are clamp, max, absolute value".
-// Stays: `f32_of_u32` beside `f64_of_u64`, and `u32_of_f32` beside `u64_of_f64`: one generic function would take its type's operators, literals and bit pattern
-// through a trait made for it, and be longer than the two; what is proved of both is proved once, with the format as a parameter.
+// Conversions between integers and floats, and f32's max, clamp and absolute value.
+// The project's scope asks that these be worked out here and not taken from std: "Rust's `as` from integer to f32 rounds to nearest, ties to even; from float
+// to integer it truncates. Both are worked out here, as are clamp, max, absolute value".
 ghost use Rattle.std.specs.Prelude.{◌≡◌, pos};
 ghost use Rattle.std.specs.Float.Ieee as Ieee;
 ghost use Rattle.std.specs.Float.{binary32, binary64};
-ghost use Rattle.numeric.specs.Float.{scaled, max_of, clamp_of, abs_of, finite};
-
-use std::num::{
-    f32_from_bits_with_nan, f32_to_bits_with_nan, f64_from_bits_with_nan, f64_to_bits_with_nan,
-};
+ghost use Rattle.numeric.specs.Float.{scaled, max_of, clamp_of, abs_of};
 
 // The nearest f32 of a rate, ties to even: Rust's `n as f32`.
 // Each half of n is a float exactly, and so is the upper half times 2^16; only the sum rounds.
+// Stays: it and `f64_of_u64` are a line each, and one generic function would need more to name its operators, its cast and its distance.
 pub fn f32_of_u32(n: u32) -> f32
     ensures { result ≡ Ieee.of_int binary32 (pos n) }
 {
     ((n / 65536) as f32) * 65536.0 + ((n % 65536) as f32)
 }
 
-// The f32 of a small number of the settings, which is exact.
-pub fn f32_of_u8(n: u8) -> f32
-    ensures { result ≡ Ieee.of_int binary32 (pos n) }
-{
-    n as f32
-}
-
 // The nearest f64 of a count of bytes or nanoseconds, ties to even: Rust's `n as f64`.
+// Stays: as `f32_of_u32`.
 pub fn f64_of_u64(n: u64) -> f64
     ensures { result ≡ Ieee.of_int binary64 (pos n) }
 {
@@ -36,6 +25,7 @@ pub fn f64_of_u64(n: u64) -> f64
 
 // The whole part of a rate or a share: Rust's `x as u32`, which cuts the fraction, stops at the ends of u32 and gives 0 for a NaN.
 // From 1 on, x is its digits under a leading one, put at the top of a word and shifted down by what the exponent's field says.
+// Stays: `u64_of_f64(x.into()).min(u32::MAX as u64) as u32` proves, but takes a decrease, which is to be no slower than the Rust's, 1.6 ns more in 6.7.
 pub fn u32_of_f32(x: f32) -> u32
     ensures { result ≡ Ieee.to_unsigned 32 x }
 {
@@ -52,6 +42,7 @@ pub fn u32_of_f32(x: f32) -> u32
 }
 
 // The whole part of a credit: Rust's `x as u64`, cut and stopped likewise.
+// Stays: as `u32_of_f32`; a function over patterns of both formats would be a third, of as many lines.
 pub fn u64_of_f64(x: f64) -> u64
     ensures { result ≡ Ieee.to_unsigned 64 x }
 {
@@ -73,34 +64,6 @@ pub fn scaled_u32(n: u32, factor: f32) -> u32
     ensures { result ≡ scaled n factor }
 {
     u32_of_f32(f32_of_u32(n) * factor)
-}
-
-// The f32 of a bit pattern, such as a sample on a tape: Rust's `f32::from_bits`. Every NaN pattern gives a NaN.
-pub fn f32_of_bits(bits: u32) -> f32
-    ensures { result ≡ Ieee.of_bits binary32 bits }
-{
-    f32_from_bits_with_nan(bits)
-}
-
-// The bit pattern of an f32, for output: Rust's `to_bits`, and one quiet pattern for every NaN.
-pub fn bits_of_f32(x: f32) -> u32
-    ensures { result ≡ Ieee.to_bits binary32 x }
-{
-    f32_to_bits_with_nan(x)
-}
-
-// The f64 of a bit pattern, for the scripts of the differential runs.
-pub fn f64_of_bits(bits: u64) -> f64
-    ensures { result ≡ Ieee.of_bits binary64 bits }
-{
-    f64_from_bits_with_nan(bits)
-}
-
-// The bit pattern of an f64, for the same.
-pub fn bits_of_f64(x: f64) -> u64
-    ensures { result ≡ Ieee.to_bits binary64 x }
-{
-    f64_to_bits_with_nan(x)
 }
 
 // The larger of two, as Rust's `f32::max`: a NaN gives way to the other. Of two equal zeros it is the first.
@@ -132,12 +95,4 @@ pub fn abs_f32(x: f32) -> f32
     } else {
         f32::from_bits(x.to_bits() % 0x8000_0000)
     }
-}
-
-// Whether a setting is a number: neither a NaN nor an infinity. Rust's `f32::is_finite`.
-#[tactic(auto, using(crate::proofs::Patterns::finite_is))]
-pub fn is_finite_f32(x: f32) -> bool
-    ensures { result ≡ finite x }
-{
-    x.is_finite()
 }

@@ -1,214 +1,207 @@
--- A hand-in and a send attempt add to their pacer's counts what they say, where nothing saturates, and touch no other pacer's words. Assumes nothing.
-use Prim.Native.Nat.{ℕ, suc, ◌+◌, ◌≤◌, ◌<◌, min}
-use mathlib.Core.Bool.{Bool, true, false, cond}
-use mathlib.Core.List.{List}
-use mathlib.Core.Logic.{◌≢◌, ◌⊎◌, inl, inr}
-use mathlib.Core.Path.{◌≡◌, refl, sym, ◌∙◌}
-use native.Mathlib.Decide.{ℕ_discrete, dec_le}
-use native.Mathlib.Nat.{add-zero}
-use native.Mathlib.Omega.{arith}
-use borrow.Author.Tests.{eq-eqb, ne_eqb}
-use lib.Dec.{eqb}
-use lib.ListN.{length, get_or, set, length-set}
-use lib.Seq.{get_or-set_same, get_or-set_other}
-use Rattle.config.specs.Config.{class_number}
+-- A hand-in and a send attempt add to their pacer's counts what they say, where nothing saturates. Assumes nothing.
+use Rattle.std.proofs.Common.{◌≡◌, ℕ, zero, suc, ◌+◌, ◌≤◌, ◌<◌, min, Bool, true, false, ltb, length, Option, Some, None, refl, sym, subst, arith}
+use mathlib.Core.Logic.{◌≢◌}
 use Rattle.config.specs.declared.config.Priority.{Priority}
 use Rattle.config.specs.declared.config.Priority.TheVariants.{P0, P1, P2}
 use Rattle.numeric.proofs.Choice.{by_test}
-use Rattle.pacing.specs.Coalescing.{exchanged, coalesced_at, dropped_at, total_bytes_at, insert_noted, noted_by}
-use Rattle.pacing.specs.Counts.{only_at, drop_adds, insert_adds, fate_adds, hand_adds, send_adds}
-use Rattle.pacing.specs.Entries.{counted, pacer_at, queue_at, look, entered, most_of}
-use Rattle.pacing.specs.Ring.{is_full}
-use Rattle.pacing.specs.WriterPacer.{count_at, count_in, drop_noted, class_noted, hand_in_noted, hand_in_written, left_noted, sent_noted, send_noted}
-use Rattle.pacing.specs.declared.coalescing.InstanceKey.{InstanceKey}
-use Rattle.pacing.specs.declared.entries.Entry.{Entry}
-use Rattle.pacing.specs.declared.ring.Fate.{Fate}
-use Rattle.pacing.specs.declared.ring.Fate.TheVariants.{Full, Joined, PushedOut, Replaced}
-use Rattle.pacing.specs.declared.ring.Kept.{Kept}
-use Rattle.pacing.specs.declared.writer_pacer.SendAction.{SendAction}
-use Rattle.pacing.specs.declared.writer_pacer.SendAction.TheVariants.{Send, Empty, RateLimited}
-use Rattle.pacing.proofs.Slots.{noted-hand_in, noted-send, look-noted, look_other, queue_number, length-entered, count_entered, class-below}
+use Rattle.queue.specs.Coalescing.{Coalescing, found, inserted, inserted_at, popped_front}
+use Rattle.queue.specs.Waiting.{has_room, joins}
+use Rattle.queue.specs.declared.entry.InstanceKey.{InstanceKey}
+use Rattle.queue.specs.declared.fate.Fate.{Fate}
+use Rattle.queue.specs.declared.fate.Fate.TheVariants.{Full, Joined, PushedOut, Replaced}
+use Rattle.queue.specs.declared.fate.Kept.{Kept}
+use Rattle.pacing.specs.Counts.{count_in, only_at, hand_adds, send_adds, fate_adds}
+use Rattle.pacing.specs.TokenBucket.{tried, told, forced}
+use Rattle.pacing.specs.WriterPacer.{Pacer, with_counts, with_tokens, numbered, inserted_into, hand_in_noted, handed_in, enqueue, enqueue_p0, enqueue_p1, enqueue_p2, front_of, waiting_in, gone, by_p0, by_p1, by_p2, attempt, attempt_p0, paid, waited, waited_by, limited, send_noted, sent_from}
+use Rattle.pacing.specs.declared.pacer_counts.PacerCounts.{PacerCounts}
+use Rattle.pacing.specs.declared.send_action.SendAction.{SendAction}
+use Rattle.pacing.specs.declared.send_action.SendAction.TheVariants.{Send, Empty, RateLimited}
+use Rattle.pacing.specs.declared.token_bucket.TokenBucket.{TokenBucket}
+use Rattle.pacing.specs.declared.token_bucket.Told.{Told}
+use Rattle.pacing.specs.declared.token_bucket.Tried.{Tried}
 
--- ---- words m are the words l, with so much more at each count of pacer i
+-- ---- one count
 
-record Adds (i : ℕ) (l m : List ℕ) (f : ℕ → ℕ) : Type 0 where
-  same_length : length m ≡ length l
-  adds :
-      pacer_at i + 1805 ≤ length l → (k : ℕ) → k < 13 → k ≢ 2 → count_in l i k + f k ≤ 18446744073709551615
-      → count_in m i k ≡ count_in l i k + f k
+-- so much more, where it does not saturate
+abbrev More : ℕ → ℕ → ℕ → Type 0
+More before after adds = before + adds ≤ 18446744073709551615 → after ≡ before + adds
 
-adds_none : (i : ℕ) (l : List ℕ) → Adds i l l (λ k. 0)
-adds_none i l = record { same_length = refl; adds = λ long k b ne h. omega arith }
+same : (a : ℕ) → More a a 0
+same a h = omega arith
 
-adds_then :
-    (i : ℕ) (l m n : List ℕ) (f g h : ℕ → ℕ) → Adds i l m f → Adds i m n g → ((k : ℕ) → h k ≡ f k + g k) → Adds i l n h
-adds_then i l m n f g h a b sum =
-    record {
-      same_length = b.same_length ∙ a.same_length;
-      adds = λ long k q ne most.
-          let all = sum k in
-          let x = a.adds long k q ne (omega arith) in
-          let y = b.adds (omega (arith, a.same_length)) k q ne (omega arith) in
-          omega arith;
-    }
+more : (a : ℕ) → More a (min (a + 1) 18446744073709551615) 1
+more a h = omega arith
 
--- one count more
-adds-counted : (i : ℕ) (l : List ℕ) (at x n : ℕ) → at ≡ count_at i x → x < 13 → Adds i l (counted l at n) (only_at x n)
-unfolding counted only_at
-adds-counted i l at x n e hi =
-    record {
-      same_length = length-set l at _;
-      adds = λ long k b ne h. go long k (ℕ_discrete k x) h;
-    }
-  where
-    go :
-        pacer_at i + 1805 ≤ length l → (k : ℕ) → Dec (k ≡ x) → count_in l i k + cond (eqb k x) n 0 ≤ 18446744073709551615
-        → get_or (set l at (min (get_or l at 0 + n) 18446744073709551615)) (count_at i k) 0 ≡ count_in l i k + cond (eqb k x) n 0
-    go long k (yes q) = rw (e, q, eq-eqb x x refl) (λ h. get_or-set_same l (count_at i x) _ 0 (omega arith) ∙ omega arith)
-    go long k (no q) =
-        rw (e, ne_eqb k x q)
-        (λ h. get_or-set_other l (count_at i x) (count_at i k) _ 0 (λ (r : count_at i k ≡ count_at i x). q (omega arith)) ∙ omega arith)
+by_n : (a n : ℕ) → More a (min (a + n) 18446744073709551615) (0 + n + 0)
+by_n a n h = omega arith
 
--- P2's waiting bytes are no such count
-adds-exchanged : (i : ℕ) (l : List ℕ) (leave come : ℕ) → Adds i l (exchanged l (queue_at i P2) leave come) (λ k. 0)
-unfolding exchanged
-adds-exchanged i l leave come =
-    record {
-      same_length = length-set l _ _;
-      adds = λ long k b ne h.
-          get_or-set_other l (total_bytes_at (queue_at i P2)) (count_at i k) _ 0 (λ (r : count_at i k ≡ total_bytes_at (queue_at i P2)). ne (omega arith))
-          ∙ omega arith;
-    }
+-- ---- each count, but for P2's bytes that wait
 
--- nor is an entry
-adds-entered : (i : ℕ) (l : List ℕ) (c : Priority) (s : ℕ) (e : Entry) → s < most_of c → Adds i l (entered l (queue_at i c) c s e) (λ k. 0)
-adds-entered i l c s e hi =
-    record {
-      same_length = length-entered l (queue_at i c) c s e;
-      adds = λ long k b ne h. count_entered l i c s e i k hi b ∙ omega arith;
-    }
+each :
+    (P : ℕ → Type 0) → P 0 → P 1 → P 3 → P 4 → P 5 → P 6 → P 7 → P 8 → P 9 → P 10 → P 11 → P 12 → (k : ℕ) → k < 13 → k ≢ 2 → P k
+each P a b d e f g h i j l m n zero lo ne = a
+each P a b d e f g h i j l m n (suc zero) lo ne = b
+each P a b d e f g h i j l m n (suc (suc zero)) lo ne = absurd (ne refl)
+each P a b d e f g h i j l m n (suc (suc (suc zero))) lo ne = d
+each P a b d e f g h i j l m n (suc (suc (suc (suc zero)))) lo ne = e
+each P a b d e f g h i j l m n (suc (suc (suc (suc (suc zero))))) lo ne = f
+each P a b d e f g h i j l m n (suc (suc (suc (suc (suc (suc zero)))))) lo ne = g
+each P a b d e f g h i j l m n (suc (suc (suc (suc (suc (suc (suc zero))))))) lo ne = h
+each P a b d e f g h i j l m n (suc (suc (suc (suc (suc (suc (suc (suc zero)))))))) lo ne = i
+each P a b d e f g h i j l m n (suc (suc (suc (suc (suc (suc (suc (suc (suc zero))))))))) lo ne = j
+each P a b d e f g h i j l m n (suc (suc (suc (suc (suc (suc (suc (suc (suc (suc zero)))))))))) lo ne = l
+each P a b d e f g h i j l m n (suc (suc (suc (suc (suc (suc (suc (suc (suc (suc (suc zero))))))))))) lo ne = m
+each P a b d e f g h i j l m n (suc (suc (suc (suc (suc (suc (suc (suc (suc (suc (suc (suc zero)))))))))))) lo ne = n
+each P a b d e f g h i j l m n (suc (suc (suc (suc (suc (suc (suc (suc (suc (suc (suc (suc (suc k))))))))))))) lo ne = absurd (omega arith)
 
 -- ---- a hand-in
 
-adds_by : (i : ℕ) (l : List ℕ) (leave : ℕ) (f : Fate) (n : ℕ) → Adds i l (noted_by l (queue_at i P2) leave f n) (insert_adds f)
-adds_by i l leave Full n = adds_none i l
-adds_by i l leave Joined n = adds-exchanged i l 0 n
-adds_by i l leave PushedOut n =
-    adds_then i l _ _ _ _ _ (adds-counted i l (dropped_at (queue_at i P2)) 1 1 (omega arith) (omega arith)) (adds-exchanged i _ leave n) (λ k. omega arith)
-adds_by i l leave Replaced n =
-    adds_then i l _ _ _ _ _ (adds-counted i l (coalesced_at (queue_at i P2)) 0 1 (omega arith) (omega arith)) (adds-exchanged i _ leave n) (λ k. omega arith)
+-- a record joined, as far as counts go: the queue of P2 counts what it replaces and pushes out
+record Queued (c : Priority) (p : Pacer) (x : Pacer × Kept) : Type 0 where
+  counts_same : x.0.counts ≡ p.counts
+  coalesced : More p.queues.p2.coalesced x.0.queues.p2.coalesced (fate_adds c x.1.fate 0)
+  dropped : More p.queues.p2.dropped x.0.queues.p2.dropped (fate_adds c x.1.fate 1)
 
-adds_dropped : (i : ℕ) (l : List ℕ) (f : Fate) → Adds i l (drop_noted l i f) (drop_adds f)
-adds_dropped i l Full = adds_none i l
-adds_dropped i l Joined = adds_none i l
-adds_dropped i l PushedOut = adds-counted i l (count_at i 9) 9 1 refl (omega arith)
-adds_dropped i l Replaced = adds_none i l
+queued_p0 : (p : Pacer) (sequence n : ℕ) → Queued P0 p (enqueue_p0 p sequence n)
+unfolding enqueue_p0
+queued_p0 p sequence n =
+    by_test (Queued P0 p) (has_room p.queues.p0) (λ e. record { counts_same = refl; coalesced = same _; dropped = same _ })
+    (λ e. record { counts_same = refl; coalesced = same _; dropped = same _ })
 
-adds-class : (i : ℕ) (l : List ℕ) (c : Priority) (kept : Kept) (n : ℕ) → Adds i l (class_noted l i c kept n) (fate_adds c kept.fate)
-unfolding insert_noted
-adds-class i l P0 kept n = adds_none i l
-adds-class i l P1 kept n = adds_dropped i l kept.fate
-adds-class i l P2 kept n = adds_by i l _ kept.fate n
+-- no count of P2's changes, whatever becomes of a record of P1
+p1_adds : (f : Fate) → (fate_adds P1 f 0 ≡ 0) × (fate_adds P1 f 1 ≡ 0)
+unfolding only_at
+p1_adds Full = (refl, refl)
+p1_adds Joined = (refl, refl)
+p1_adds PushedOut = (refl, refl)
+p1_adds Replaced = (refl, refl)
 
-adds-noted : (i : ℕ) (l : List ℕ) (c : Priority) (kept : Kept) (n : ℕ) → Adds i l (hand_in_noted l i c kept n) (hand_adds c kept.fate)
-unfolding hand_in_noted hand_adds
-adds-noted i l c kept n = go (is_full kept.fate)
+queued_p1 : (p : Pacer) (sequence n : ℕ) → Queued P1 p (enqueue_p1 p sequence n)
+unfolding enqueue_p1
+queued_p1 p sequence n =
+    let none = p1_adds (joins p.queues.p1) in
+    record { counts_same = refl; coalesced = λ h. omega (arith, none.0); dropped = λ h. omega (arith, none.1) }
+
+queued_p2 : (p : Pacer) (key : InstanceKey) (n : ℕ) → Queued P2 p (enqueue_p2 p key n)
+unfolding enqueue_p2 inserted joins only_at
+queued_p2 p key n = go (found p.queues.p2 key)
   where
-    go :
-        (t : Bool)
-        → Adds i l (cond t l (class_noted (counted l (count_at i (3 + class_number c)) 1) i c kept n))
-        (λ k. cond t 0 (only_at (3 + class_number c) 1 k + fate_adds c kept.fate k))
-    go true = adds_none i l
-    go false =
-        adds_then i l _ _ _ _ _ (adds-counted i l (count_at i (3 + class_number c)) (3 + class_number c) 1 refl (omega (arith, class-below c)))
-        (adds-class i _ c kept n) (λ k. refl)
+    go : (place : Option ℕ) → Queued P2 p (inserted_into p (inserted_at p.queues.p2 key n place))
+    go (Some place) = record { counts_same = refl; coalesced = more _; dropped = same _ }
+    go None = tail (has_room p.queues.p2.waiting) refl
+      where
+        tail : (t : Bool) → has_room p.queues.p2.waiting ≡ t → Queued P2 p (inserted_into p (inserted_at p.queues.p2 key n None))
+        tail true e = record { counts_same = refl; coalesced = rw e (same _); dropped = rw e (same _) }
+        tail false e = record { counts_same = refl; coalesced = rw e (same _); dropped = rw e (more _) }
 
-adds_handed :
-    (i : ℕ) (l : List ℕ) (c : Priority) (kept : Kept) (n : ℕ) (key : InstanceKey) → (is_full kept.fate ≡ false → kept.slot < most_of c)
-    → Adds i l (hand_in_written l i c kept n key) (hand_adds c kept.fate)
-unfolding hand_in_written
-adds_handed i l c kept n key fits =
-    by_test (λ (m : List ℕ). Adds i l m (hand_adds c kept.fate)) (is_full kept.fate) (λ e. adds-noted i l c kept n)
-    (λ e. adds_then i l _ _ _ _ _ (adds-noted i l c kept n) (adds-entered i _ c kept.slot _ (fits e)) (λ k. omega arith))
+queued : (p : Pacer) (c : Priority) (key : InstanceKey) (n : ℕ) → Queued c p (enqueue p c key n)
+unfolding enqueue
+queued p P0 key n = let q = queued_p0 (numbered p) p.next_sequence n in record { counts_same = q.counts_same; coalesced = q.coalesced; dropped = q.dropped }
+queued p P1 key n = let q = queued_p1 (numbered p) p.next_sequence n in record { counts_same = q.counts_same; coalesced = q.coalesced; dropped = q.dropped }
+queued p P2 key n = let q = queued_p2 (numbered p) key n in record { counts_same = q.counts_same; coalesced = q.coalesced; dropped = q.dropped }
+
+-- what a hand-in does to count k, where q is what the queues leave
+abbrev AfterHand : Priority → Fate → Pacer → Pacer → ℕ → Type 0
+AfterHand c f p q k = More (count_in p k) (count_in (with_counts q (hand_in_noted p.counts c f)) k) (hand_adds c f k)
+
+noted_hand :
+    (c : Priority) (f : Fate) (p q : Pacer) → More p.queues.p2.coalesced q.queues.p2.coalesced (fate_adds c f 0)
+    → More p.queues.p2.dropped q.queues.p2.dropped (fate_adds c f 1) → (k : ℕ) → k < 13 → k ≢ 2 → AfterHand c f p q k
+unfolding hand_in_noted hand_adds only_at
+noted_hand P0 Full p q a b = each (AfterHand P0 Full p q) a b (same _) (same _) (same _) (same _) (same _) (same _) (same _) (same _) (same _) (same _)
+noted_hand P0 Joined p q a b = each (AfterHand P0 Joined p q) a b (more _) (same _) (same _) (same _) (same _) (same _) (same _) (same _) (same _) (same _)
+noted_hand P0 PushedOut p q a b = each (AfterHand P0 PushedOut p q) a b (more _) (same _) (same _) (same _) (same _) (same _) (same _) (same _) (same _) (same _)
+noted_hand P0 Replaced p q a b = each (AfterHand P0 Replaced p q) a b (more _) (same _) (same _) (same _) (same _) (same _) (same _) (same _) (same _) (same _)
+noted_hand P1 Full p q a b = each (AfterHand P1 Full p q) a b (same _) (same _) (same _) (same _) (same _) (same _) (same _) (same _) (same _) (same _)
+noted_hand P1 Joined p q a b = each (AfterHand P1 Joined p q) a b (same _) (more _) (same _) (same _) (same _) (same _) (same _) (same _) (same _) (same _)
+noted_hand P1 PushedOut p q a b = each (AfterHand P1 PushedOut p q) a b (same _) (more _) (same _) (same _) (same _) (same _) (more _) (same _) (same _) (same _)
+noted_hand P1 Replaced p q a b = each (AfterHand P1 Replaced p q) a b (same _) (more _) (same _) (same _) (same _) (same _) (same _) (same _) (same _) (same _)
+noted_hand P2 Full p q a b = each (AfterHand P2 Full p q) a b (same _) (same _) (same _) (same _) (same _) (same _) (same _) (same _) (same _) (same _)
+noted_hand P2 Joined p q a b = each (AfterHand P2 Joined p q) a b (same _) (same _) (more _) (same _) (same _) (same _) (same _) (same _) (same _) (same _)
+noted_hand P2 PushedOut p q a b = each (AfterHand P2 PushedOut p q) a b (same _) (same _) (more _) (same _) (same _) (same _) (same _) (same _) (same _) (same _)
+noted_hand P2 Replaced p q a b = each (AfterHand P2 Replaced p q) a b (same _) (same _) (more _) (same _) (same _) (same _) (same _) (same _) (same _) (same _)
+
+-- a hand-in adds what it says
+pub count_handed :
+    (p : Pacer) (c : Priority) (key : InstanceKey) (n k : ℕ) → k < 13 → k ≢ 2
+    → count_in p k + hand_adds c (handed_in p c key n).1.fate k ≤ 18446744073709551615
+    → count_in (handed_in p c key n).0 k ≡ count_in p k + hand_adds c (handed_in p c key n).1.fate k
+unfolding handed_in
+count_handed p c key n k lo ne =
+    let x = enqueue p c key n in
+    let q = queued p c key n in
+    subst (λ (m : PacerCounts). More (count_in p k) (count_in (with_counts x.0 (hand_in_noted m c x.1.fate)) k) (hand_adds c x.1.fate k)) (sym q.counts_same) (noted_hand c x.1.fate p x.0 q.coalesced q.dropped k lo ne)
 
 -- ---- a send attempt
 
-adds-left : (i : ℕ) (l : List ℕ) (c : Priority) (n : ℕ) → Adds i l (left_noted l i c n) (λ k. 0)
-adds-left i l P0 n = adds_none i l
-adds-left i l P1 n = adds_none i l
-adds-left i l P2 n = adds-exchanged i l n 0
+-- what a step leaves of the counts
+abbrev Still : Pacer → Pacer × SendAction → Type 0
+Still p x =
+    (x.0.counts ≡ p.counts) × (x.0.queues.p2.coalesced ≡ p.queues.p2.coalesced) × (x.0.queues.p2.dropped ≡ p.queues.p2.dropped)
 
-adds-sent : (i : ℕ) (l : List ℕ) (c : Priority) (n : ℕ) → Adds i l (sent_noted l i c n) (λ k. only_at (6 + class_number c) 1 k + only_at 10 n k)
-unfolding sent_noted
-adds-sent i l c n =
-    adds_then i l _ _ _ _ _ (adds-counted i l (count_at i (6 + class_number c)) (6 + class_number c) 1 refl (omega (arith, class-below c)))
-    (adds_then i _ _ _ _ _ _ (adds-counted i _ (count_at i 10) 10 n refl (omega arith)) (adds-left i _ c n) (λ k. sym (add-zero _))) (λ k. refl)
+still_gone : (p : Pacer) (c : Priority) (b : TokenBucket) (t : Bool) → Still p (gone p c b t)
+unfolding gone popped_front
+still_gone p P0 b t = (refl, refl, refl)
+still_gone p P1 b t = (refl, refl, refl)
+still_gone p P2 b t =
+    by_test (λ (q : Coalescing). (p.counts ≡ p.counts) × (q.coalesced ≡ p.queues.p2.coalesced) × (q.dropped ≡ p.queues.p2.dropped))
+    (ltb 0 (length p.queues.p2.waiting.items)) (λ e. (refl, refl, refl)) (λ e. (refl, refl, refl))
 
-adds-send : (i : ℕ) (l : List ℕ) (a : SendAction) → Adds i l (send_noted l i a) (send_adds a)
-unfolding send_noted send_adds
-adds-send i l (Send c slot sequence n true) =
-    adds_then i l _ _ _ _ _ (adds-sent i l c n) (adds-counted i _ (count_at i 12) 12 1 refl (omega arith)) (λ k. refl)
-adds-send i l (Send c slot sequence n false) = adds_then i l _ _ _ _ _ (adds-sent i l c n) (adds_none i _) (λ k. refl)
-adds-send i l Empty = adds_none i l
-adds-send i l (RateLimited wait) = adds-counted i l (count_at i 11) 11 1 refl (omega arith)
+still_p0 : (p : Pacer) (time n : ℕ) (x : Tried) → Still p (by_p0 p time n x)
+still_p0 p time n x = by_test (Still p) x.taken (λ e. still_gone p P0 x.bucket false) (λ e. still_gone p P0 (forced x.bucket time n) true)
 
--- ---- the laws
+still_waited : (p : Pacer) (x : Told) → Still p (waited_by p x)
+still_waited p x = by_test (Still p) (ltb 0 x.wait) (λ e. (refl, refl, refl)) (λ e. (refl, refl, refl))
 
--- a hand-in adds what it says to its own pacer's counts
-pub count_handed :
-    (l : List ℕ) (i : ℕ) (c : Priority) (kept : Kept) (n : ℕ) (key : InstanceKey) (k : ℕ) → pacer_at i + 1805 ≤ length l
-    → (is_full kept.fate ≡ false → kept.slot < most_of c) → k < 13 → k ≢ 2 → count_in l i k + hand_adds c kept.fate k ≤ 18446744073709551615
-    → count_in (hand_in_written l i c kept n key) i k ≡ count_in l i k + hand_adds c kept.fate k
-count_handed l i c kept n key k long fits = (adds_handed i l c kept n key fits).adds long k
+still_limited : (p : Pacer) (time : ℕ) → Still p (limited p time)
+unfolding limited waited
+still_limited p time =
+    by_test (Still p) (ltb 0 (waiting_in p.queues P1)) (λ e. still_waited p (told p.tokens time (front_of p.queues P1).length))
+    (λ e. by_test (Still p) (ltb 0 (waiting_in p.queues P2)) (λ e. still_waited p (told p.tokens time (front_of p.queues P2).length)) (λ e. (refl, refl, refl)))
 
-pub length_handed :
-    (l : List ℕ) (i : ℕ) (c : Priority) (kept : Kept) (n : ℕ) (key : InstanceKey) → length (hand_in_written l i c kept n key) ≡ length l
-unfolding hand_in_written
-length_handed l i c kept n key =
-    by_test (λ (m : List ℕ). length m ≡ length l) (is_full kept.fate) (λ e. (noted-hand_in i l c kept n).same_length)
-    (λ e. length-entered _ (queue_at i c) c kept.slot _ ∙ (noted-hand_in i l c kept n).same_length)
+still_p2 : (p : Pacer) (time : ℕ) (x : Tried) → Still p (by_p2 p time x)
+still_p2 p time x = by_test (Still p) x.taken (λ e. still_gone p P2 x.bucket false) (λ e. still_limited (with_tokens p x.bucket) time)
+
+still_p1 : (p : Pacer) (time : ℕ) (x : Tried) → Still p (by_p1 p time x)
+still_p1 p time x = by_test (Still p) x.taken (λ e. still_gone p P1 x.bucket false) (λ e. still_p2 p time (paid x.bucket p.queues P2 time))
+
+still : (p : Pacer) (time : ℕ) → Still p (attempt p time)
+unfolding attempt attempt_p0
+still p time =
+    let n = (front_of p.queues P0).length in
+    by_test (Still p) (ltb 0 (waiting_in p.queues P0)) (λ e. still_p0 p time n (tried p.tokens time n))
+    (λ e. still_p1 p time (paid p.tokens p.queues P1 time))
+
+-- what a send attempt does to count k, where q is what its step leaves
+abbrev AfterSend : SendAction → Pacer → Pacer → ℕ → Type 0
+AfterSend a p q k = More (count_in p k) (count_in (with_counts q (send_noted p.counts a)) k) (send_adds a k)
+
+noted_action :
+    (a : SendAction) (p q : Pacer) → More p.queues.p2.coalesced q.queues.p2.coalesced 0 → More p.queues.p2.dropped q.queues.p2.dropped 0
+    → (k : ℕ) → k < 13 → k ≢ 2 → AfterSend a p q k
+unfolding send_noted send_adds only_at
+noted_action (Send P0 slot sequence n true) p q a b =
+    each (AfterSend (Send P0 slot sequence n true) p q) a b (same _) (same _) (same _) (more _) (same _) (same _) (same _) (by_n _ n) (same _) (more _)
+noted_action (Send P0 slot sequence n false) p q a b =
+    each (AfterSend (Send P0 slot sequence n false) p q) a b (same _) (same _) (same _) (more _) (same _) (same _) (same _) (by_n _ n) (same _) (same _)
+noted_action (Send P1 slot sequence n true) p q a b =
+    each (AfterSend (Send P1 slot sequence n true) p q) a b (same _) (same _) (same _) (same _) (more _) (same _) (same _) (by_n _ n) (same _) (more _)
+noted_action (Send P1 slot sequence n false) p q a b =
+    each (AfterSend (Send P1 slot sequence n false) p q) a b (same _) (same _) (same _) (same _) (more _) (same _) (same _) (by_n _ n) (same _) (same _)
+noted_action (Send P2 slot sequence n true) p q a b =
+    each (AfterSend (Send P2 slot sequence n true) p q) a b (same _) (same _) (same _) (same _) (same _) (more _) (same _) (by_n _ n) (same _) (more _)
+noted_action (Send P2 slot sequence n false) p q a b =
+    each (AfterSend (Send P2 slot sequence n false) p q) a b (same _) (same _) (same _) (same _) (same _) (more _) (same _) (by_n _ n) (same _) (same _)
+noted_action Empty p q a b = each (AfterSend Empty p q) a b (same _) (same _) (same _) (same _) (same _) (same _) (same _) (same _) (same _) (same _)
+noted_action (RateLimited wait) p q a b = each (AfterSend (RateLimited wait) p q) a b (same _) (same _) (same _) (same _) (same _) (same _) (same _) (same _) (more _) (same _)
 
 -- a send attempt, likewise
 pub count_sent :
-    (l : List ℕ) (i : ℕ) (a : SendAction) (k : ℕ) → pacer_at i + 1805 ≤ length l → k < 13 → k ≢ 2
-    → count_in l i k + send_adds a k ≤ 18446744073709551615 → count_in (send_noted l i a) i k ≡ count_in l i k + send_adds a k
-count_sent l i a k long = (adds-send i l a).adds long k
-
-pub length-sent : (l : List ℕ) (i : ℕ) (a : SendAction) → length (send_noted l i a) ≡ length l
-length-sent l i a = (noted-send i l a).same_length
-
--- ---- another pacer
-
-counts-apart : (i j k : ℕ) → j ≢ i → k < 13 → (count_at j k < pacer_at i + 1792) ⊎ (pacer_at i + 1805 ≤ count_at j k)
-counts-apart i j k ne b = go (dec_le (suc i) j)
-  where
-    go : Dec (i < j) → (count_at j k < pacer_at i + 1792) ⊎ (pacer_at i + 1805 ≤ count_at j k)
-    go (yes q) = inr (omega arith)
-    go (no q) = let r : j < i = omega arith in inl (omega arith)
-
-pub queues-apart : (i : ℕ) (c : Priority) (j : ℕ) (d : Priority) → j ≢ i → queue_number i c ≢ queue_number j d
-queues-apart i c j d ne q = ne (omega (arith, class-below c, class-below d))
-
--- its counts stay
-pub count_handed_other :
-    (l : List ℕ) (i : ℕ) (c : Priority) (kept : Kept) (n : ℕ) (key : InstanceKey) (j k : ℕ) → j ≢ i
-    → (is_full kept.fate ≡ false → kept.slot < most_of c) → k < 13 → count_in (hand_in_written l i c kept n key) j k ≡ count_in l j k
-unfolding hand_in_written
-count_handed_other l i c kept n key j k ne fits b =
-    let same = (noted-hand_in i l c kept n).off (count_at j k) (counts-apart i j k ne b) in
-    by_test (λ (m : List ℕ). count_in m j k ≡ count_in l j k) (is_full kept.fate) (λ e. same)
-    (λ e. count_entered _ i c kept.slot _ j k (fits e) b ∙ same)
-
-pub count_sent_other : (l : List ℕ) (i : ℕ) (a : SendAction) (j k : ℕ) → j ≢ i → k < 13 → count_in (send_noted l i a) j k ≡ count_in l j k
-count_sent_other l i a j k ne b = (noted-send i l a).off (count_at j k) (counts-apart i j k ne b)
-
--- its entries stay
-pub look_handed_other :
-    (l : List ℕ) (i : ℕ) (c : Priority) (kept : Kept) (n : ℕ) (key : InstanceKey) (j : ℕ) (d : Priority) (t : ℕ) → j ≢ i
-    → (is_full kept.fate ≡ false → kept.slot < most_of c) → t < most_of d
-    → look (hand_in_written l i c kept n key) (queue_at j d) d t ≡ look l (queue_at j d) d t
-unfolding hand_in_written
-look_handed_other l i c kept n key j d t ne fits b =
-    let same = look-noted i l _ j d t (noted-hand_in i l c kept n) b in
-    by_test (λ (m : List ℕ). look m (queue_at j d) d t ≡ look l (queue_at j d) d t) (is_full kept.fate) (λ e. same)
-    (λ e. look_other _ i c kept.slot _ j d t (fits e) b (queues-apart i c j d ne) ∙ same)
+    (p : Pacer) (time k : ℕ) → k < 13 → k ≢ 2 → count_in p k + send_adds (sent_from p time).1 k ≤ 18446744073709551615
+    → count_in (sent_from p time).0 k ≡ count_in p k + send_adds (sent_from p time).1 k
+unfolding sent_from
+count_sent p time k lo ne =
+    let x = attempt p time in
+    let s = still p time in
+    subst (λ (m : PacerCounts). More (count_in p k) (count_in (with_counts x.0 (send_noted m x.1)) k) (send_adds x.1 k)) (sym s.0)
+    (noted_action x.1 p x.0 (λ h. omega (arith, s.1)) (λ h. omega (arith, s.2)) k lo ne)

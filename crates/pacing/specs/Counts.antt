@@ -1,13 +1,37 @@
--- How much a call adds to count k of its pacer, k as over `count_at`; P2's waiting bytes, k = 2, are left out. Definitions only.
-use Rattle.std.specs.Prelude.{ℕ, ◌+◌, cond, eqb}
+-- The thirteen counts of a pacer, and how much a call adds to count k; P2's waiting bytes, k = 2, are left out. Definitions only.
+use Rattle.std.specs.Prelude.{ℕ, ◌+◌, cond, eqb, List, [], ◌∷◌, get_or}
 use Rattle.config.specs.Config.{class_number}
 use Rattle.config.specs.declared.config.Priority.{Priority}
 use Rattle.config.specs.declared.config.Priority.TheVariants.{P0, P1, P2}
-use Rattle.pacing.specs.Ring.{is_full}
-use Rattle.pacing.specs.declared.ring.Fate.{Fate}
-use Rattle.pacing.specs.declared.ring.Fate.TheVariants.{Full, Joined, PushedOut, Replaced}
-use Rattle.pacing.specs.declared.writer_pacer.SendAction.{SendAction}
-use Rattle.pacing.specs.declared.writer_pacer.SendAction.TheVariants.{Send, Empty, RateLimited}
+use Rattle.queue.specs.Fates.{is_full}
+use Rattle.queue.specs.declared.fate.Fate.{Fate}
+use Rattle.queue.specs.declared.fate.Fate.TheVariants.{Full, Joined, PushedOut, Replaced}
+use Rattle.pacing.specs.WriterPacer.{Pacer}
+use Rattle.pacing.specs.declared.send_action.SendAction.{SendAction}
+use Rattle.pacing.specs.declared.send_action.SendAction.TheVariants.{Send, Empty, RateLimited}
+
+-- 0 coalesced_p2, 1 dropped_p2, 2 P2's bytes that wait, 3 to 5 enqueued and 6 to 8 sent by class, 9 dropped_p1, 10 bytes_sent, 11 rate_limited,
+-- 12 force_sends_p0
+abbrev pub counts_of : Pacer → List ℕ
+counts_of p =
+    p.queues.p2.coalesced
+    ∷ p.queues.p2.dropped
+    ∷ p.queues.p2.total_bytes
+    ∷ p.counts.enqueued.p0
+    ∷ p.counts.enqueued.p1
+    ∷ p.counts.enqueued.p2
+    ∷ p.counts.sent.p0
+    ∷ p.counts.sent.p1
+    ∷ p.counts.sent.p2
+    ∷ p.counts.dropped_p1
+    ∷ p.counts.bytes_sent
+    ∷ p.counts.rate_limited
+    ∷ p.counts.force_sends_p0
+    ∷ []
+
+-- count k of a pacer, 0 beyond the last
+abbrev pub count_in : Pacer → ℕ → ℕ
+count_in p k = get_or (counts_of p) k 0
 
 -- n at one count, nothing at any other
 unfoldable pub only_at : ℕ → ℕ → ℕ → ℕ

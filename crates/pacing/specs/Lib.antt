@@ -1,12 +1,6 @@
-pub mod Coalescing
-pub mod CoalescingQueueAlone
 pub mod Counts
-pub mod Entries
-pub mod Pool
-pub mod Ring
 pub mod Records
 pub mod TokenBucket
 pub mod TokenBucketAlone
 pub mod WriterPacer
 pub mod WriterPacerAlone
-pub mod Window

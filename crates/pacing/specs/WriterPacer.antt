@@ -1,43 +1,36 @@
--- The writer pacer: what a hand-in, a send attempt and a rate setting do to one pacer. A hand-in's
--- step reads the record's class and key alone; its length goes to the entry and its bytes to the slot. Definitions only.
-use Rattle.std.specs.Prelude.{ℕ, ◌+◌, ◌/◌, min, max, Bool, true, false, cond, List, [], ◌∷◌, ltb, eqb, get_or, Result, Ok, Err}
+-- The writer pacer (document 01, "Pacer"): three queues in the order of their class, and a token bucket. Steps decide what becomes of a
+-- record, and counts follow. Of a record only the length is read; where its bytes go is said apart. Definitions only.
+use Rattle.std.specs.Prelude.{ℕ, ◌+◌, ◌/◌, min, max, Bool, true, false, cond, List, [], ◌∷◌, map, length, ltb, eqb, ◌&&◌, get_or, Option, Some, None}
 use Rattle.config.specs.Config.{class_number}
-use Rattle.config.specs.Ledger.{moved}
+use Rattle.config.specs.PerClass.{value_at, with_value}
 use Rattle.config.specs.Refusal.{accepted}
 use Rattle.config.specs.declared.config.CongestionConfig.{CongestionConfig}
 use Rattle.config.specs.declared.config.Priority.{Priority}
 use Rattle.config.specs.declared.config.Priority.TheVariants.{P0, P1, P2}
-use Rattle.config.specs.declared.ledger.Ledger.{Ledger}
-use Rattle.config.specs.declared.refusal.Refusal.{Refusal}
-use Rattle.numeric.specs.Integer.{next}
-use Rattle.pacing.specs.Coalescing.{new_queue, queue_of, inserted, exchanged, insert_noted}
-use Rattle.pacing.specs.Entries.{pacer_at, queue_at, counted, entry_of, look, entered}
-use Rattle.pacing.specs.Pool.{limits_of, slot_start, stored, piece}
-use Rattle.pacing.specs.Ring.{is_full, new_ring, slot_at, popped, placed, refused}
+use Rattle.config.specs.declared.per_class.PerClass.{PerClass}
+use Rattle.numeric.specs.Integer.{next, up_to_u64}
+use Rattle.queue.specs.Coalescing.{Coalescing, new_queue, inserted, popped_front}
+use Rattle.queue.specs.Entries.{entry_of, no_entry, no_key, no_keyed_entry, keyed_entry}
+use Rattle.queue.specs.Fates.{is_full, refused}
+use Rattle.queue.specs.Pool.{limits_of, slot_start, stored, piece}
+use Rattle.queue.specs.Waiting.{Waiting, empty, limit_fits, has_room, joined, kept_in, popped, slot_of}
+use Rattle.queue.specs.declared.entry.Entry.{Entry}
+use Rattle.queue.specs.declared.entry.InstanceKey.{InstanceKey}
+use Rattle.queue.specs.declared.entry.KeyedEntry.{KeyedEntry}
+use Rattle.queue.specs.declared.fate.Fate.{Fate}
+use Rattle.queue.specs.declared.fate.Fate.TheVariants.{Full, Joined, PushedOut, Replaced}
+use Rattle.queue.specs.declared.fate.Kept.{Kept}
+use Rattle.queue.specs.declared.pool.Limits.{Limits}
 use Rattle.pacing.specs.TokenBucket.{tried, forced, told, rated, resized}
 use Rattle.pacing.specs.TokenBucket as bucket
-use Rattle.pacing.specs.declared.coalescing.Inserted.{Inserted}
-use Rattle.pacing.specs.declared.coalescing.InstanceKey.{InstanceKey}
-use Rattle.pacing.specs.declared.entries.Entry.{Entry}
-use Rattle.pacing.specs.declared.pool.Limits.{Limits}
-use Rattle.pacing.specs.declared.ring.Fate.{Fate}
-use Rattle.pacing.specs.declared.ring.Fate.TheVariants.{Full, Joined, PushedOut, Replaced}
-use Rattle.pacing.specs.declared.ring.Kept.{Kept}
-use Rattle.pacing.specs.declared.ring.Placed.{Placed}
-use Rattle.pacing.specs.declared.ring.Ring.{Ring}
+use Rattle.pacing.specs.declared.pacer_counts.PacerCounts.{PacerCounts}
+use Rattle.pacing.specs.declared.pacer_counts.WriterPacerMetrics.{WriterPacerMetrics}
+use Rattle.pacing.specs.declared.send_action.SendAction.{SendAction}
+use Rattle.pacing.specs.declared.send_action.SendAction.TheVariants.{Send, Empty, RateLimited}
 use Rattle.pacing.specs.declared.token_bucket.TokenBucket.{TokenBucket}
 use Rattle.pacing.specs.declared.token_bucket.Told.{Told}
 use Rattle.pacing.specs.declared.token_bucket.Tried.{Tried}
-use Rattle.pacing.specs.declared.writer_pacer.Attempt.{Attempt}
-use Rattle.pacing.specs.declared.writer_pacer.Enqueued.{Enqueued}
-use Rattle.pacing.specs.declared.writer_pacer.Handed.{Handed}
 use Rattle.pacing.specs.declared.writer_pacer.PacerConfig.{PacerConfig}
-use Rattle.pacing.specs.declared.writer_pacer.PacerCore.{PacerCore}
-use Rattle.pacing.specs.declared.writer_pacer.Queues.{Queues}
-use Rattle.pacing.specs.declared.writer_pacer.SendAction.{SendAction}
-use Rattle.pacing.specs.declared.writer_pacer.SendAction.TheVariants.{Send, Empty, RateLimited}
-use Rattle.pacing.specs.declared.writer_pacer.SendTried.{SendTried}
-use Rattle.pacing.specs.declared.writer_pacer.WriterPacerMetrics.{WriterPacerMetrics}
 
 -- ---- the parts
 
@@ -51,83 +44,190 @@ pacer_config_of c =
       limits = limits_of c;
     }
 
-abbrev pub ring_of : Queues → Priority → Ring
-ring_of q P0 = q.p0
-ring_of q P1 = q.p1
-ring_of q P2 = q.p2.ring
+pub record Queues : Type 0 where
+  pub p0 : Waiting Entry
+  pub p1 : Waiting Entry
+  pub p2 : Coalescing
 
-abbrev pub with_ring : Queues → Priority → Ring → Queues
-with_ring q P0 r = record { p0 = r; p1 = q.p1; p2 = q.p2 }
-with_ring q P1 r = record { p0 = q.p0; p1 = r; p2 = q.p2 }
-with_ring q P2 r = record { p0 = q.p0; p1 = q.p1; p2 = queue_of r q.p2.next_sequence }
+-- a pacer: what waits in its queues, its own next number, its tokens, and its counts
+pub record Pacer : Type 0 where
+  pub queues : Queues
+  pub next_sequence : ℕ
+  pub tokens : TokenBucket
+  pub counts : PacerCounts
 
-abbrev pub with_queues : PacerCore → Queues → PacerCore
-with_queues p q = record { queues = q; next_sequence = p.next_sequence; tokens = p.tokens }
+abbrev pub queues_of : Waiting Entry → Waiting Entry → Coalescing → Queues
+queues_of p0 p1 p2 = record { p0 = p0; p1 = p1; p2 = p2 }
 
-abbrev pub with_tokens : PacerCore → TokenBucket → PacerCore
-with_tokens p b = record { queues = p.queues; next_sequence = p.next_sequence; tokens = b }
+abbrev pub pacer_of : Queues → ℕ → TokenBucket → PacerCounts → Pacer
+pacer_of q sequence b n = record { queues = q; next_sequence = sequence; tokens = b; counts = n }
+
+abbrev pub with_queues : Pacer → Queues → Pacer
+with_queues p q = pacer_of q p.next_sequence p.tokens p.counts
+
+abbrev pub with_tokens : Pacer → TokenBucket → Pacer
+with_tokens p b = pacer_of p.queues p.next_sequence b p.counts
+
+abbrev pub with_counts : Pacer → PacerCounts → Pacer
+with_counts p n = pacer_of p.queues p.next_sequence p.tokens n
+
+abbrev pub with_p0 : Pacer → Waiting Entry → Pacer
+with_p0 p q = with_queues p (queues_of q p.queues.p1 p.queues.p2)
+
+abbrev pub with_p1 : Pacer → Waiting Entry → Pacer
+with_p1 p q = with_queues p (queues_of p.queues.p0 q p.queues.p2)
+
+abbrev pub with_p2 : Pacer → Coalescing → Pacer
+with_p2 p q = with_queues p (queues_of p.queues.p0 p.queues.p1 q)
+
+-- how many records of a class wait
+abbrev pub waiting_in : Queues → Priority → ℕ
+waiting_in q P0 = length q.p0.items
+waiting_in q P1 = length q.p1.items
+waiting_in q P2 = length q.p2.waiting.items
+
+-- an entry of P0 or P1, which has no key
+abbrev pub keyless : Entry → KeyedEntry
+keyless e = keyed_entry e no_key
+
+abbrev pub keyless_entry : Option Entry → Option KeyedEntry
+keyless_entry None = None
+keyless_entry (Some e) = Some (keyless e)
+
+-- the entries of a class in order
+abbrev pub entries_in : Queues → Priority → List KeyedEntry
+entries_in q P0 = map keyless q.p0.items
+entries_in q P1 = map keyless q.p1.items
+entries_in q P2 = q.p2.waiting.items
+
+-- the slot of the record so many places behind the first of its class
+abbrev pub slot_in : Queues → Priority → ℕ → ℕ
+slot_in q P0 place = slot_of q.p0 place
+slot_in q P1 place = slot_of q.p1 place
+slot_in q P2 place = slot_of q.p2.waiting place
 
 -- a bucket's capacity, as the Rust's `with_rate` and `set_rate` have it: 100 ms of the rate, at least 1,500
 abbrev pub burst_of : ℕ → ℕ
 burst_of rate = max 1500 (rate / 10)
 
--- a place that no pacer has: every number 0
-abbrev pub no_core : PacerCore
-no_core =
+abbrev pub no_counts : PacerCounts
+no_counts =
     record {
-      queues = record { p0 = new_ring 0; p1 = new_ring 0; p2 = new_queue 0 };
-      next_sequence = 0;
-      tokens = bucket.made 0 0 0;
+      enqueued = record { p0 = 0; p1 = 0; p2 = 0 };
+      sent = record { p0 = 0; p1 = 0; p2 = 0 };
+      dropped_p1 = 0;
+      bytes_sent = 0;
+      rate_limited = 0;
+      force_sends_p0 = 0;
     }
+
+-- queues in which nothing waits
+abbrev pub new_queues : Limits → Queues
+new_queues m = queues_of (empty m.p0) (empty m.p1) (new_queue m.p2)
+
+-- the number of slots of each class
+abbrev pub limits_in : Queues → Limits
+limits_in q = record { p0 = q.p0.limit; p1 = q.p1.limit; p2 = q.p2.waiting.limit }
 
 -- a new pacer, its bucket full
-abbrev pub made : ℕ → Limits → ℕ → PacerCore
-made time m rate =
-    record {
-      queues = record { p0 = new_ring m.p0; p1 = new_ring m.p1; p2 = new_queue m.p2 };
-      next_sequence = 0;
-      tokens = bucket.made time rate (burst_of rate);
-    }
+abbrev pub made : ℕ → Limits → ℕ → Pacer
+made time m rate = pacer_of (new_queues m) 0 (bucket.made time rate (burst_of rate)) no_counts
 
--- ---- hand-in; i is the pacer's number, l the words
+-- whether queues of N0, N1 and N2 slots have room for these limits
+abbrev pub fits : ℕ → ℕ → ℕ → Limits → Bool
+fits N0 N1 N2 m = limit_fits N0 m.p0 && limit_fits N1 m.p1 && limit_fits N2 m.p2
+
+abbrev pub queues_made : ℕ → ℕ → ℕ → Limits → Option Queues
+queues_made N0 N1 N2 m = cond (fits N0 N1 N2 m) (Some (new_queues m)) None
+
+abbrev pub queues_restarted : ℕ → ℕ → ℕ → Queues → Limits → Queues
+queues_restarted N0 N1 N2 q m = cond (fits N0 N1 N2 m) (new_queues m) q
+
+abbrev pub made_in : ℕ → ℕ → ℕ → ℕ → Limits → ℕ → Option Pacer
+made_in N0 N1 N2 time m rate = cond (fits N0 N1 N2 m) (Some (made time m rate)) None
+
+-- a pacer made anew in the place of another, where there is room for its limits
+abbrev pub restarted : ℕ → ℕ → ℕ → Pacer → ℕ → Limits → ℕ → Pacer
+restarted N0 N1 N2 p time m rate = cond (fits N0 N1 N2 m) (made time m rate) p
+
+-- ---- hand-in
 
 -- a number of the pacer's own is used up
-abbrev pub numbered : PacerCore → PacerCore
-numbered p =
-    record {
-      queues = p.queues;
-      next_sequence = next p.next_sequence;
-      tokens = p.tokens;
-    }
-
-abbrev pub placed_by : PacerCore → Priority → Placed → Enqueued
-placed_by p c x = record { core = with_queues p (with_ring p.queues c x.ring); kept = x.kept }
-
--- a record joins its class's tail
-unfoldable pub placed_in : PacerCore → Priority → ℕ → Enqueued
-placed_in p c sequence = placed_by p c (placed (ring_of p.queues c) sequence)
+abbrev pub numbered : Pacer → Pacer
+numbered p = pacer_of p.queues (next p.next_sequence) p.tokens p.counts
 
 -- P0 never drops: 12 where it is full, and the number is used up all the same
-unfoldable pub enqueue_p0 : PacerCore → ℕ → Enqueued
-enqueue_p0 p sequence =
-    cond (ltb p.queues.p0.count p.queues.p0.limit) (placed_in p P0 sequence)
-    (record { core = p; kept = refused sequence })
+unfoldable pub enqueue_p0 : Pacer → ℕ → ℕ → Pacer × Kept
+enqueue_p0 p sequence n =
+    cond (has_room p.queues.p0) (with_p0 p (joined p.queues.p0 (entry_of sequence n)), kept_in p.queues.p0 sequence)
+    (p, refused sequence)
 
-unfoldable pub enqueue_p1 : PacerCore → ℕ → Enqueued
-enqueue_p1 p sequence = placed_in p P1 sequence
+-- P1 drops its oldest where it is full
+unfoldable pub enqueue_p1 : Pacer → ℕ → ℕ → Pacer × Kept
+enqueue_p1 p sequence n = (with_p1 p (joined p.queues.p1 (entry_of sequence n)), kept_in p.queues.p1 sequence)
 
-abbrev pub inserted_into : PacerCore → Inserted → Enqueued
-inserted_into p x =
-    record { core = with_queues p (record { p0 = p.queues.p0; p1 = p.queues.p1; p2 = x.queue }); kept = x.kept }
+abbrev pub inserted_into : Pacer → Coalescing × Kept → Pacer × Kept
+inserted_into p x = (with_p2 p x.0, x.1)
 
-unfoldable pub enqueue_p2 : PacerCore → List ℕ → ℕ → InstanceKey → Enqueued
-enqueue_p2 p l i key = inserted_into p (inserted p.queues.p2 l (queue_at i P2) key)
+-- P2 coalesces, under its own sequence numbers
+unfoldable pub enqueue_p2 : Pacer → InstanceKey → ℕ → Pacer × Kept
+enqueue_p2 p key n = inserted_into p (inserted p.queues.p2 key n)
 
--- every hand-in uses up a number of the pacer's own, P2's too
-unfoldable pub enqueue : PacerCore → List ℕ → ℕ → Priority → InstanceKey → Enqueued
-enqueue p l i P0 key = enqueue_p0 (numbered p) p.next_sequence
-enqueue p l i P1 key = enqueue_p1 (numbered p) p.next_sequence
-enqueue p l i P2 key = enqueue_p2 (numbered p) l i key
+-- Every hand-in uses up a number of the pacer's own, P2's too.
+unfoldable pub enqueue : Pacer → Priority → InstanceKey → ℕ → Pacer × Kept
+enqueue p P0 key n = enqueue_p0 (numbered p) p.next_sequence n
+enqueue p P1 key n = enqueue_p1 (numbered p) p.next_sequence n
+enqueue p P2 key n = enqueue_p2 (numbered p) key n
+
+-- so many more in the count of a class
+abbrev pub counted : PerClass ℕ → Priority → PerClass ℕ
+counted n c = with_value n c (next (value_at n c))
+
+abbrev pub enqueued_noted : PacerCounts → Priority → PacerCounts
+enqueued_noted n c =
+    record {
+      enqueued = counted n.enqueued c;
+      sent = n.sent;
+      dropped_p1 = n.dropped_p1;
+      bytes_sent = n.bytes_sent;
+      rate_limited = n.rate_limited;
+      force_sends_p0 = n.force_sends_p0;
+    }
+
+abbrev pub one_dropped : PacerCounts → PacerCounts
+one_dropped n =
+    record {
+      enqueued = n.enqueued;
+      sent = n.sent;
+      dropped_p1 = next n.dropped_p1;
+      bytes_sent = n.bytes_sent;
+      rate_limited = n.rate_limited;
+      force_sends_p0 = n.force_sends_p0;
+    }
+
+-- P1's records that are pushed out; P2's are counted in its queue
+abbrev pub drop_noted : PacerCounts → Priority → Fate → PacerCounts
+drop_noted n P0 f = n
+drop_noted n P1 Full = n
+drop_noted n P1 Joined = n
+drop_noted n P1 PushedOut = one_dropped n
+drop_noted n P1 Replaced = n
+drop_noted n P2 f = n
+
+-- the counts after a hand-in; a full queue counts nothing
+unfoldable pub hand_in_noted : PacerCounts → Priority → Fate → PacerCounts
+hand_in_noted n c f = cond (is_full f) n (drop_noted (enqueued_noted n c) c f)
+
+abbrev pub noted_hand_in : Priority → Pacer × Kept → Pacer × Kept
+noted_hand_in c x = (with_counts x.0 (hand_in_noted x.0.counts c x.1.fate), x.1)
+
+-- a hand-in of n bytes: what it leaves, and where its record is kept
+unfoldable pub handed_in : Pacer → Priority → InstanceKey → ℕ → Pacer × Kept
+handed_in p c key n = noted_hand_in c (enqueue p c key n)
+
+-- its bytes go to its slot in the pool; i is the pacer's number
+unfoldable pub hand_in_stored : List ℕ → Limits → ℕ → Priority → Kept → List ℕ → List ℕ
+hand_in_stored p m i c kept bytes = cond (is_full kept.fate) p (stored p (slot_start m i c kept.slot) bytes)
 
 -- ---- send attempt
 
@@ -144,62 +244,117 @@ action_values Empty = []
 action_values (RateLimited wait) = wait ∷ []
 
 -- the entry of the first waiting record of a class
-unfoldable pub front_of : Queues → List ℕ → ℕ → Priority → Entry
-front_of q l i c = look l (queue_at i c) c (slot_at (ring_of q c) 0)
+abbrev pub front_of : Queues → Priority → Entry
+front_of q P0 = get_or q.p0.items 0 no_entry
+front_of q P1 = get_or q.p1.items 0 no_entry
+front_of q P2 = (get_or q.p2.waiting.items 0 no_keyed_entry).entry
+
+-- the first of a class leaves
+abbrev pub popped_in : Queues → Priority → Queues
+popped_in q P0 = queues_of (popped q.p0) q.p1 q.p2
+popped_in q P1 = queues_of q.p0 (popped q.p1) q.p2
+popped_in q P2 = queues_of q.p0 q.p1 (popped_front q.p2)
 
 abbrev pub send_of : Priority → ℕ → Entry → Bool → SendAction
 send_of c slot e forced = Send c slot e.sequence e.length forced
 
 -- the first of a class goes, and leaves the bucket b
-unfoldable pub gone : PacerCore → List ℕ → ℕ → Priority → TokenBucket → Bool → Attempt
-gone p l i c b forced =
-    record {
-      core = with_tokens (with_queues p (with_ring p.queues c (popped (ring_of p.queues c)))) b;
-      action = send_of c (slot_at (ring_of p.queues c) 0) (front_of p.queues l i c) forced;
-    }
+unfoldable pub gone : Pacer → Priority → TokenBucket → Bool → Pacer × SendAction
+gone p c b forced =
+    (with_tokens (with_queues p (popped_in p.queues c)) b, send_of c (slot_in p.queues c 0) (front_of p.queues c) forced)
 
-abbrev pub by_p0 : PacerCore → List ℕ → ℕ → ℕ → ℕ → Tried → Attempt
-by_p0 p l i time n x =
-    cond x.taken (gone p l i P0 x.bucket false) (gone p l i P0 (forced x.bucket time n) true)
+abbrev pub by_p0 : Pacer → ℕ → ℕ → Tried → Pacer × SendAction
+by_p0 p time n x = cond x.taken (gone p P0 x.bucket false) (gone p P0 (forced x.bucket time n) true)
 
 -- "P0 always goes, tokens falling to 0 if short."
-unfoldable pub attempt_p0 : PacerCore → List ℕ → ℕ → ℕ → Attempt
-attempt_p0 p l i time =
-    by_p0 p l i time (front_of p.queues l i P0).length (tried p.tokens time (front_of p.queues l i P0).length)
+unfoldable pub attempt_p0 : Pacer → ℕ → Pacer × SendAction
+attempt_p0 p time = by_p0 p time (front_of p.queues P0).length (tried p.tokens time (front_of p.queues P0).length)
 
 -- the first of P1 or P2 is paid for in tokens; an empty queue refills nothing
-unfoldable pub paid : TokenBucket → Queues → List ℕ → ℕ → Priority → ℕ → Tried
-paid b q l i c time =
-    cond (eqb (ring_of q c).count 0) (record { bucket = b; taken = false }) (tried b time (front_of q l i c).length)
+unfoldable pub paid : TokenBucket → Queues → Priority → ℕ → Tried
+paid b q c time =
+    cond (eqb (waiting_in q c) 0) (record { bucket = b; taken = false }) (tried b time (front_of q c).length)
 
-abbrev pub waited_by : PacerCore → Told → Attempt
+abbrev pub waited_by : Pacer → Told → Pacer × SendAction
 waited_by p x =
-    cond (ltb 0 x.wait) (record { core = with_tokens p x.bucket; action = RateLimited x.wait })
-    (record { core = with_tokens p x.bucket; action = Empty })
+    cond (ltb 0 x.wait) (with_tokens p x.bucket, RateLimited x.wait) (with_tokens p x.bucket, Empty)
 
 -- the wait for n tokens
-unfoldable pub waited : PacerCore → ℕ → ℕ → Attempt
+unfoldable pub waited : Pacer → ℕ → ℕ → Pacer × SendAction
 waited p time n = waited_by p (told p.tokens time n)
 
 -- a wait is told for P1's first, or for P2's where P1 is empty
-unfoldable pub limited : PacerCore → List ℕ → ℕ → ℕ → Attempt
-limited p l i time =
-    cond (ltb 0 p.queues.p1.count) (waited p time (front_of p.queues l i P1).length)
-    (cond (ltb 0 p.queues.p2.ring.count) (waited p time (front_of p.queues l i P2).length)
-    (record { core = p; action = Empty }))
+unfoldable pub limited : Pacer → ℕ → Pacer × SendAction
+limited p time =
+    cond (ltb 0 (waiting_in p.queues P1)) (waited p time (front_of p.queues P1).length)
+    (cond (ltb 0 (waiting_in p.queues P2)) (waited p time (front_of p.queues P2).length) (p, Empty))
 
-abbrev pub by_p2 : PacerCore → List ℕ → ℕ → ℕ → Tried → Attempt
-by_p2 p l i time x = cond x.taken (gone p l i P2 x.bucket false) (limited (with_tokens p x.bucket) l i time)
+abbrev pub by_p2 : Pacer → ℕ → Tried → Pacer × SendAction
+by_p2 p time x = cond x.taken (gone p P2 x.bucket false) (limited (with_tokens p x.bucket) time)
 
-abbrev pub by_p1 : PacerCore → List ℕ → ℕ → ℕ → Tried → Attempt
-by_p1 p l i time x =
-    cond x.taken (gone p l i P1 x.bucket false) (by_p2 p l i time (paid x.bucket p.queues l i P2 time))
+abbrev pub by_p1 : Pacer → ℕ → Tried → Pacer × SendAction
+by_p1 p time x = cond x.taken (gone p P1 x.bucket false) (by_p2 p time (paid x.bucket p.queues P2 time))
 
 -- which class is tried next: P0, then P1, then P2
-unfoldable pub attempt : PacerCore → List ℕ → ℕ → ℕ → Attempt
-attempt p l i time =
-    cond (ltb 0 p.queues.p0.count) (attempt_p0 p l i time)
-    (by_p1 p l i time (paid p.tokens p.queues l i P1 time))
+unfoldable pub attempt : Pacer → ℕ → Pacer × SendAction
+attempt p time =
+    cond (ltb 0 (waiting_in p.queues P0)) (attempt_p0 p time) (by_p1 p time (paid p.tokens p.queues P1 time))
+
+abbrev pub sent_of : PacerCounts → Priority → ℕ → PacerCounts
+sent_of n c bytes =
+    record {
+      enqueued = n.enqueued;
+      sent = counted n.sent c;
+      dropped_p1 = n.dropped_p1;
+      bytes_sent = up_to_u64 (n.bytes_sent + bytes);
+      rate_limited = n.rate_limited;
+      force_sends_p0 = n.force_sends_p0;
+    }
+
+abbrev pub one_forced : PacerCounts → PacerCounts
+one_forced n =
+    record {
+      enqueued = n.enqueued;
+      sent = n.sent;
+      dropped_p1 = n.dropped_p1;
+      bytes_sent = n.bytes_sent;
+      rate_limited = n.rate_limited;
+      force_sends_p0 = next n.force_sends_p0;
+    }
+
+abbrev pub one_limited : PacerCounts → PacerCounts
+one_limited n =
+    record {
+      enqueued = n.enqueued;
+      sent = n.sent;
+      dropped_p1 = n.dropped_p1;
+      bytes_sent = n.bytes_sent;
+      rate_limited = next n.rate_limited;
+      force_sends_p0 = n.force_sends_p0;
+    }
+
+-- the counts after a send attempt
+unfoldable pub send_noted : PacerCounts → SendAction → PacerCounts
+send_noted n (Send c slot sequence bytes forced) = cond forced (one_forced (sent_of n c bytes)) (sent_of n c bytes)
+send_noted n Empty = n
+send_noted n (RateLimited wait) = one_limited n
+
+abbrev pub noted_send : Pacer × SendAction → Pacer × SendAction
+noted_send x = (with_counts x.0 (send_noted x.0.counts x.1), x.1)
+
+-- a send attempt: what it leaves, and what it comes to
+unfoldable pub sent_from : Pacer → ℕ → Pacer × SendAction
+sent_from p time = noted_send (attempt p time)
+
+-- with control off a send attempt gets the Rust's empty
+unfoldable pub sent_if : Bool → Pacer → ℕ → Pacer × SendAction
+sent_if enabled p time = cond enabled (sent_from p time) (p, Empty)
+
+-- "A sent record is shown as the middle part of the pool where it was kept."
+abbrev pub sent_bytes : Limits → ℕ → SendAction → List ℕ → List ℕ
+sent_bytes m i (Send c slot sequence n forced) p = piece p (slot_start m i c slot) n
+sent_bytes m i Empty p = piece p 0 0
+sent_bytes m i (RateLimited wait) p = piece p 0 0
 
 -- ---- rate setting
 
@@ -210,118 +365,24 @@ clamped_rate rate least most = min (max rate least) most
 abbrev pub rate_of : PacerConfig → ℕ → ℕ
 rate_of c rate = clamped_rate rate c.min_rate_bps c.max_rate_bps
 
-unfoldable pub rate_set : PacerCore → PacerConfig → ℕ → ℕ → PacerCore
+unfoldable pub rate_set : Pacer → PacerConfig → ℕ → ℕ → Pacer
 rate_set p c time rate = with_tokens p (resized (rated p.tokens time (rate_of c rate)) (burst_of (rate_of c rate)))
 
--- ---- metrics follow what became of a call
+-- ---- metrics
 
--- of pacer i: 0 coalesced_p2, 1 dropped_p2, 2 P2's bytes that wait, 3 to 5 enqueued and 6 to 8 sent by class, 9 dropped_p1,
--- 10 bytes_sent, 11 rate_limited, 12 force_sends_p0
-abbrev pub count_at : ℕ → ℕ → ℕ
-count_at i k = pacer_at i + 1792 + k
-
-abbrev pub drop_noted : List ℕ → ℕ → Fate → List ℕ
-drop_noted l i Full = l
-drop_noted l i Joined = l
-drop_noted l i PushedOut = counted l (count_at i 9) 1
-drop_noted l i Replaced = l
-
-abbrev pub class_noted : List ℕ → ℕ → Priority → Kept → ℕ → List ℕ
-class_noted l i P0 kept n = l
-class_noted l i P1 kept n = drop_noted l i kept.fate
-class_noted l i P2 kept n = insert_noted l (queue_at i P2) kept n
-
--- a hand-in of n bytes
-unfoldable pub hand_in_noted : List ℕ → ℕ → Priority → Kept → ℕ → List ℕ
-hand_in_noted l i c kept n =
-    cond (is_full kept.fate) l (class_noted (counted l (count_at i (3 + class_number c)) 1) i c kept n)
-
-abbrev pub left_noted : List ℕ → ℕ → Priority → ℕ → List ℕ
-left_noted l i P0 n = l
-left_noted l i P1 n = l
-left_noted l i P2 n = exchanged l (queue_at i P2) n 0
-
--- a record of n bytes sent
-unfoldable pub sent_noted : List ℕ → ℕ → Priority → ℕ → List ℕ
-sent_noted l i c n = left_noted (counted (counted l (count_at i (6 + class_number c)) 1) (count_at i 10) n) i c n
-
-unfoldable pub send_noted : List ℕ → ℕ → SendAction → List ℕ
-send_noted l i (Send c slot sequence n forced) =
-    cond forced (counted (sent_noted l i c n) (count_at i 12) 1) (sent_noted l i c n)
-send_noted l i Empty = l
-send_noted l i (RateLimited wait) = counted l (count_at i 11) 1
-
-abbrev pub count_in : List ℕ → ℕ → ℕ → ℕ
-count_in l i k = get_or l (count_at i k) 0
-
-abbrev pub metrics_in : List ℕ → ℕ → WriterPacerMetrics
-metrics_in l i =
+abbrev pub metrics_in : Pacer → WriterPacerMetrics
+metrics_in p =
     record {
-      enqueued_p0 = count_in l i 3;
-      enqueued_p1 = count_in l i 4;
-      enqueued_p2 = count_in l i 5;
-      sent_p0 = count_in l i 6;
-      sent_p1 = count_in l i 7;
-      sent_p2 = count_in l i 8;
-      dropped_p1 = count_in l i 9;
-      coalesced_p2 = count_in l i 0;
-      dropped_p2 = count_in l i 1;
-      bytes_sent = count_in l i 10;
-      rate_limited = count_in l i 11;
-      force_sends_p0 = count_in l i 12;
+      enqueued_p0 = p.counts.enqueued.p0;
+      enqueued_p1 = p.counts.enqueued.p1;
+      enqueued_p2 = p.counts.enqueued.p2;
+      sent_p0 = p.counts.sent.p0;
+      sent_p1 = p.counts.sent.p1;
+      sent_p2 = p.counts.sent.p2;
+      dropped_p1 = p.counts.dropped_p1;
+      coalesced_p2 = p.queues.p2.coalesced;
+      dropped_p2 = p.queues.p2.dropped;
+      bytes_sent = p.counts.bytes_sent;
+      rate_limited = p.counts.rate_limited;
+      force_sends_p0 = p.counts.force_sends_p0;
     }
-
-abbrev pub total_bytes_in : List ℕ → ℕ → ℕ
-total_bytes_in l i = count_in l i 2
-
--- ---- what is written, as a function of the outcome
-
--- counts and entry of a record of n bytes
-unfoldable pub hand_in_written : List ℕ → ℕ → Priority → Kept → ℕ → InstanceKey → List ℕ
-hand_in_written l i c kept n key =
-    cond (is_full kept.fate) (hand_in_noted l i c kept n)
-    (entered (hand_in_noted l i c kept n) (queue_at i c) c kept.slot (entry_of kept.sequence n key))
-
--- its bytes
-unfoldable pub hand_in_stored : List ℕ → Limits → ℕ → Priority → Kept → List ℕ → List ℕ
-hand_in_stored p m i c kept bytes = cond (is_full kept.fate) p (stored p (slot_start m i c kept.slot) bytes)
-
--- ---- calls on a pacer's parts, once the checks have answered: a call that is turned down leaves all as it was
-
-abbrev pub hand_leaves : Ledger → ℕ → Enqueued → Handed
-hand_leaves l time x = record { ledger = moved l time; core = x.core; answer = Ok x.kept.fate }
-
--- "12 .. counts as an accepted call, moving the last time, and uses up a sequence number"
-unfoldable pub handed_by : Result Unit Refusal → Ledger → PacerCore → List ℕ → ℕ → ℕ → Priority → InstanceKey → Handed
-handed_by (Err e) l p words time i c key = record { ledger = l; core = p; answer = Err e }
-handed_by (Ok u) l p words time i c key = hand_leaves l time (enqueue p words i c key)
-
-unfoldable pub words_handed_by : Result Unit Refusal → PacerCore → List ℕ → ℕ → Priority → InstanceKey → ℕ → List ℕ
-words_handed_by (Err e) p words i c key n = words
-words_handed_by (Ok u) p words i c key n = hand_in_written words i c (enqueue p words i c key).kept n key
-
-unfoldable pub pool_handed_by :
-    Result Unit Refusal → PacerCore → List ℕ → Limits → ℕ → Priority → InstanceKey → List ℕ → List ℕ → List ℕ
-pool_handed_by (Err e) p words m i c key bytes pool = pool
-pool_handed_by (Ok u) p words m i c key bytes pool = hand_in_stored pool m i c (enqueue p words i c key).kept bytes
-
--- with control off a send attempt gets the Rust's empty
-unfoldable pub attempt_by : Bool → PacerCore → List ℕ → ℕ → ℕ → Attempt
-attempt_by enabled p words i time = cond enabled (attempt p words i time) (record { core = p; action = Empty })
-
-abbrev pub send_leaves : Ledger → ℕ → Attempt → SendTried
-send_leaves l time x = record { ledger = moved l time; core = x.core; answer = Ok x.action }
-
-unfoldable pub sent_by : Result Unit Refusal → Bool → Ledger → PacerCore → List ℕ → ℕ → ℕ → SendTried
-sent_by (Err e) enabled l p words time i = record { ledger = l; core = p; answer = Err e }
-sent_by (Ok u) enabled l p words time i = send_leaves l time (attempt_by enabled p words i time)
-
-unfoldable pub words_sent_by : Result Unit Refusal → Bool → PacerCore → List ℕ → ℕ → ℕ → List ℕ
-words_sent_by (Err e) enabled p words time i = words
-words_sent_by (Ok u) enabled p words time i = send_noted words i (attempt_by enabled p words i time).action
-
--- "A sent record is shown as the middle part of the pool where it was kept."
-abbrev pub sent_bytes : Limits → ℕ → SendAction → List ℕ → List ℕ
-sent_bytes m i (Send c slot sequence n forced) p = piece p (slot_start m i c slot) n
-sent_bytes m i Empty p = piece p 0 0
-sent_bytes m i (RateLimited wait) p = piece p 0 0

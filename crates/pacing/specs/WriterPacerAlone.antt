@@ -1,6 +1,6 @@
 -- A pacer used alone: the reasons that may apply to each call, and what it answers and leaves
 -- ("a pacer or queue alone needs its own slots"). Definitions only.
-use Rattle.std.specs.Prelude.{ℕ, Bool, not, List, [], ◌∷◌, ltb, length, replicate, Result, Ok, Err}
+use Rattle.std.specs.Prelude.{ℕ, Bool, not, List, [], ◌∷◌, ltb, length, Result, Ok, Err}
 use Rattle.config.specs.Config.{settings_checks}
 use Rattle.config.specs.Ledger.{opened, resumed, moved, time_check, timed_checks, rate_checks}
 use Rattle.config.specs.Refusal.{Check, when, verdict_of}
@@ -10,18 +10,17 @@ use Rattle.config.specs.declared.config.Priority.{Priority}
 use Rattle.config.specs.declared.ledger.Ledger.{Ledger}
 use Rattle.config.specs.declared.refusal.Refusal.{Refusal}
 use Rattle.config.specs.declared.refusal.Refusal.TheVariants.{RecordTooLong, RateBeyond, BufferTooShort, Disabled}
-use Rattle.pacing.specs.Coalescing.{keyless_of}
-use Rattle.pacing.specs.Pool.{is_short, limits_of, slots_of}
+use Rattle.queue.specs.Coalescing.{keyless_of}
+use Rattle.queue.specs.Pool.{is_short, limits_of, slots_of}
+use Rattle.queue.specs.declared.entry.InstanceKey.{InstanceKey}
+use Rattle.queue.specs.declared.fate.Fate.{Fate}
+use Rattle.queue.specs.declared.fate.Kept.{Kept}
+use Rattle.queue.specs.declared.pool.Limits.{Limits}
 use Rattle.pacing.specs.TokenBucketAlone.{rate_out}
-use Rattle.pacing.specs.WriterPacer.{pacer_config_of, made, rate_set, handed_by, words_handed_by, pool_handed_by, sent_by, words_sent_by}
-use Rattle.pacing.specs.declared.coalescing.InstanceKey.{InstanceKey}
-use Rattle.pacing.specs.declared.ring.Fate.{Fate}
-use Rattle.pacing.specs.declared.writer_pacer.Handed.{Handed}
+use Rattle.pacing.specs.WriterPacer.{Pacer, pacer_config_of, made, handed_in, hand_in_stored, sent_if, rate_set}
+use Rattle.pacing.specs.declared.send_action.SendAction.{SendAction}
 use Rattle.pacing.specs.declared.writer_pacer.PacerConfig.{PacerConfig}
-use Rattle.pacing.specs.declared.writer_pacer.PacerCore.{PacerCore}
-use Rattle.pacing.specs.declared.writer_pacer.SendAction.{SendAction}
-use Rattle.pacing.specs.declared.writer_pacer.SendTried.{SendTried}
-use Rattle.pacing.specs.declared.writer_pacer.WriterPacerAlone.{WriterPacerAlone}
+use Rattle.pacing.specs.declared.writer_pacer_alone.WriterPacerAlone.{WriterPacerAlone}
 
 -- the key of the topic "default", under which the Rust's `enqueue` puts a P2 record
 abbrev pub default_key : InstanceKey
@@ -44,56 +43,69 @@ hand_in_checks l enabled slots bytes time n =
 
 -- ---- the public calls
 
-abbrev pub pacer_alone_of : Ledger → PacerConfig → PacerCore → List ℕ → WriterPacerAlone
-pacer_alone_of l c p words = record { ledger = l; config = c; core = p; words = words }
+abbrev pub pacer_alone_of : Ledger → PacerConfig → Pacer → WriterPacerAlone
+pacer_alone_of l c p = record { ledger = l; config = c; pacer = p }
 
 abbrev pub made_by : Result Unit Refusal → ℕ → CongestionConfig → ℕ → Result WriterPacerAlone Refusal
 made_by (Err e) time c rate = Err e
-made_by (Ok u) time c rate =
-    Ok (pacer_alone_of (opened time) (pacer_config_of c) (made time (limits_of c) rate) (replicate 1805 0))
+made_by (Ok u) time c rate = Ok (pacer_alone_of (opened time) (pacer_config_of c) (made time (limits_of c) rate))
 
 unfoldable pub made_alone : ℕ → CongestionConfig → ℕ → Result WriterPacerAlone Refusal
 made_alone time c rate = made_by (verdict_of (making_checks c time rate)) time c rate
 
 abbrev pub resumed_alone : WriterPacerAlone → ℕ → WriterPacerAlone
-resumed_alone a calls = pacer_alone_of (resumed a.ledger calls) a.config a.core a.words
+resumed_alone a calls = pacer_alone_of (resumed a.ledger calls) a.config a.pacer
+
+-- turned down: the reason, and all as it was
+abbrev pub turned_down : {T : Type 0} → WriterPacerAlone → Refusal → Left WriterPacerAlone T
+turned_down a e = record { state = a; answer = Err e }
+
+-- accepted: what the step left of the pacer, and what it gave
+abbrev pub taken : {T : Type 0} → WriterPacerAlone → ℕ → Pacer → T → Left WriterPacerAlone T
+taken a time p t = record { state = pacer_alone_of (moved a.ledger time) a.config p; answer = Ok t }
 
 abbrev pub hand_in_verdict : WriterPacerAlone → ℕ → ℕ → ℕ → Result Unit Refusal
 hand_in_verdict a bytes time n =
     verdict_of (hand_in_checks a.ledger a.config.enabled (slots_of a.config.limits) bytes time n)
 
-abbrev pub handed_left : WriterPacerAlone → Handed → List ℕ → Left WriterPacerAlone Fate
-handed_left a x words = record { state = pacer_alone_of x.ledger a.config x.core words; answer = x.answer }
+abbrev pub hand_leaves : WriterPacerAlone → ℕ → Pacer × Kept → Left WriterPacerAlone Fate
+hand_leaves a time x = taken a time x.0 x.1.fate
+
+-- "12 .. counts as an accepted call, moving the last time, and uses up a sequence number"
+abbrev pub handed_by : WriterPacerAlone → Result Unit Refusal → ℕ → Priority → InstanceKey → ℕ → Left WriterPacerAlone Fate
+handed_by a (Err e) time c key n = turned_down a e
+handed_by a (Ok u) time c key n = hand_leaves a time (handed_in a.pacer c key n)
 
 -- a hand-in of n bytes, with a pool of so many bytes
 unfoldable pub handed_alone : WriterPacerAlone → ℕ → ℕ → Priority → InstanceKey → ℕ → Left WriterPacerAlone Fate
-handed_alone a bytes time c key n =
-    handed_left a (handed_by (hand_in_verdict a bytes time n) a.ledger a.core a.words time 0 c key)
-    (words_handed_by (hand_in_verdict a bytes time n) a.core a.words 0 c key n)
+handed_alone a bytes time c key n = handed_by a (hand_in_verdict a bytes time n) time c key n
+
+abbrev pub pool_handed_by :
+    Result Unit Refusal → Pacer → Limits → Priority → InstanceKey → List ℕ → List ℕ → List ℕ
+pool_handed_by (Err e) p m c key bytes pool = pool
+pool_handed_by (Ok u) p m c key bytes pool = hand_in_stored pool m 0 c (handed_in p c key (length bytes)).1 bytes
 
 unfoldable pub pool_handed : WriterPacerAlone → List ℕ → ℕ → Priority → InstanceKey → List ℕ → List ℕ
 pool_handed a pool time c key bytes =
-    pool_handed_by (hand_in_verdict a (length pool) time (length bytes)) a.core a.words a.config.limits 0 c key bytes pool
+    pool_handed_by (hand_in_verdict a (length pool) time (length bytes)) a.pacer a.config.limits c key bytes pool
 
 abbrev pub send_verdict : WriterPacerAlone → ℕ → ℕ → Result Unit Refusal
 send_verdict a bytes time = verdict_of (send_checks a.ledger (slots_of a.config.limits) bytes time)
 
-abbrev pub sent_left : WriterPacerAlone → SendTried → List ℕ → Left WriterPacerAlone SendAction
-sent_left a x words = record { state = pacer_alone_of x.ledger a.config x.core words; answer = x.answer }
+abbrev pub send_leaves : WriterPacerAlone → ℕ → Pacer × SendAction → Left WriterPacerAlone SendAction
+send_leaves a time x = taken a time x.0 x.1
+
+abbrev pub sent_by : WriterPacerAlone → Result Unit Refusal → ℕ → Left WriterPacerAlone SendAction
+sent_by a (Err e) time = turned_down a e
+sent_by a (Ok u) time = send_leaves a time (sent_if a.config.enabled a.pacer time)
 
 -- a send attempt, with a pool of so many bytes
 unfoldable pub sent_alone : WriterPacerAlone → ℕ → ℕ → Left WriterPacerAlone SendAction
-sent_alone a bytes time =
-    sent_left a (sent_by (send_verdict a bytes time) a.config.enabled a.ledger a.core a.words time 0)
-    (words_sent_by (send_verdict a bytes time) a.config.enabled a.core a.words time 0)
+sent_alone a bytes time = sent_by a (send_verdict a bytes time) time
 
 abbrev pub rated_by : WriterPacerAlone → Result Unit Refusal → ℕ → ℕ → Left WriterPacerAlone Unit
-rated_by a (Err e) time rate = record { state = a; answer = Err e }
-rated_by a (Ok u) time rate =
-    record {
-      state = pacer_alone_of (moved a.ledger time) a.config (rate_set a.core a.config time rate) a.words;
-      answer = Ok tt;
-    }
+rated_by a (Err e) time rate = turned_down a e
+rated_by a (Ok u) time rate = taken a time (rate_set a.pacer a.config time rate) tt
 
 unfoldable pub rated_alone : WriterPacerAlone → ℕ → ℕ → Left WriterPacerAlone Unit
 rated_alone a time rate = rated_by a (verdict_of (rate_checks a.ledger time rate)) time rate

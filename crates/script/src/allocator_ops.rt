@@ -5,10 +5,13 @@ use crate::line::{Line, Shown};
 use crate::operation::Operation;
 use crate::outcome::Outcome;
 use crate::words::{Record, Unknown};
+use config::alone::Alone;
 use config::config::{CongestionConfig, Priority};
 use config::refusal::Refusal;
-use control::budget_allocator::{BudgetAllocator, BudgetAllocatorAlone, WriterInfo};
-use numeric::float::bits_of_f32;
+use control::budget_allocator::{BudgetAllocator, WriterInfo};
+use control::budget_allocator_alone;
+use control::budget_allocator_alone::ConfiguredAllocator;
+use std::num::f32_to_bits_with_nan;
 
 #[derive(Clone, Copy)]
 pub(crate) enum AllocatorOperation {
@@ -63,40 +66,48 @@ impl TryFrom<Record> for AllocatorOperation {
 }
 
 // Before the first record.
-pub(crate) fn first() -> Result<BudgetAllocatorAlone, Refusal> {
-    BudgetAllocatorAlone::with_config(CongestionConfig::new())
+pub(crate) fn first() -> Result<Alone<ConfiguredAllocator>, Refusal> {
+    budget_allocator_alone::with_config(CongestionConfig::new())
 }
 
 impl Operation for AllocatorOperation {
-    type State = BudgetAllocatorAlone;
+    type State = Alone<ConfiguredAllocator>;
 
     fn play(
         self,
-        alone: &mut BudgetAllocatorAlone,
+        alone: &mut Alone<ConfiguredAllocator>,
         desk: &mut Desk,
         line: Line,
     ) -> Result<Line, Refusal> {
         let outcome = match self {
             Self::New => {
-                Outcome::remade(BudgetAllocatorAlone::with_config(desk.settings)?, alone)
+                Outcome::remade(budget_allocator_alone::with_config(desk.settings)?, alone)
             }
-            Self::Register { id, class } => Outcome::left(alone.register(id, class), alone),
-            Self::RegisterWeighted { id, class, weight } => {
-                Outcome::left(alone.register_weighted(id, class, weight), alone)
+            Self::Register { id, class } => Outcome::left(
+                budget_allocator_alone::register(*alone, id, class),
+                alone,
+            ),
+            Self::RegisterWeighted { id, class, weight } => Outcome::left(
+                budget_allocator_alone::register_weighted(*alone, id, class, weight),
+                alone,
+            ),
+            Self::Unregister { id } => {
+                Outcome::told(budget_allocator_alone::unregister(*alone, id), alone)
             }
-            Self::Unregister { id } => Outcome::told(alone.unregister(id), alone),
-            Self::Reallocate { rate } => Outcome::rated(alone.reallocate(rate), alone),
+            Self::Reallocate { rate } => {
+                Outcome::rated(budget_allocator_alone::reallocate(*alone, rate), alone)
+            }
             Self::Calls(calls) => Outcome::remade(alone.resumed(calls), alone),
             Self::Show { place } => {
-                let writer = alone.allocator().table().writer_at(place);
+                let writer = alone.inner.allocator.table().writer_at(place);
                 return Ok(line.with(place).with(writer));
             }
         };
-        let allocator = alone.allocator();
+        let allocator = &alone.inner.allocator;
         let line = line
             .with(outcome)
-            .with(allocator)
-            .with(alone.ledger().calls());
+            .with(*allocator)
+            .with(alone.ledger.calls());
         let updates = updates_if(outcome.updated, allocator);
         Ok(line.with(writers(allocator)).with(updates))
     }
@@ -130,13 +141,13 @@ impl Shown for WriterInfo {
 }
 
 // The digest of the writers by class and then by id.
-pub(crate) fn writers(allocator: BudgetAllocator) -> u64 {
+pub(crate) fn writers(allocator: &BudgetAllocator) -> u64 {
     let table = allocator.table();
     (0..table.count().into()).fold(DIGEST_START, |d, k| joined_writer(d, table.writer_at(k)))
 }
 
 // The digest of the updates that the rows tell, in their order, where a call told any; else of nothing.
-pub(crate) fn updates_if(told: bool, allocator: BudgetAllocator) -> u64 {
+pub(crate) fn updates_if(told: bool, allocator: &BudgetAllocator) -> u64 {
     let table = allocator.table();
     let rows = if told { table.count() } else { 0 };
     (0..rows.into()).fold(DIGEST_START, |d, k| joined_update(d, table.writer_at(k)))
@@ -148,7 +159,7 @@ fn joined_writer(digest: u64, writer: WriterInfo) -> u64 {
         &[
             writer.id,
             u8::from(writer.priority).into(),
-            bits_of_f32(writer.weight).into(),
+            f32_to_bits_with_nan(writer.weight).into(),
             writer.budget_bps.into(),
         ],
     )

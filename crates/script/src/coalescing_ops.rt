@@ -5,7 +5,8 @@ use crate::operation::Operation;
 use crate::words::{Record, Unknown};
 use arrayvec::ArrayVec;
 use config::refusal::Refusal;
-use pacing::coalescing::{InstanceKey, hash_bytes};
+use queue::coalescing::hash_bytes;
+use queue::entry::InstanceKey;
 
 // The most bytes that one record brings.
 const MOST_JOINED: usize = 32;

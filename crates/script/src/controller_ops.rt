@@ -8,11 +8,12 @@ use crate::outcome::Outcome;
 use crate::peers_ops;
 use crate::scorer_ops::with_score;
 use crate::words::{Record, Unknown};
+use config::alone::Alone;
 use config::config::{CongestionConfig, Priority};
 use config::refusal::Refusal;
-use control::controller::{
-    CongestionController, CongestionControllerAlone, ControllerCore, NackWindow,
-};
+use control::controller::{CongestionController, ControllerCore, NackWindow};
+use control::controller_alone;
+use control::controller_alone::ConfiguredCongestion;
 use control::metrics::CongestionMetrics;
 
 #[derive(Clone, Copy)]
@@ -61,38 +62,41 @@ impl TryFrom<Record> for ControllerOperation {
 }
 
 // Before the first record.
-pub(crate) fn first() -> Result<CongestionControllerAlone, Refusal> {
-    CongestionControllerAlone::new(CongestionConfig::new(), 0)
+pub(crate) fn first() -> Result<Alone<ConfiguredCongestion>, Refusal> {
+    controller_alone::new(CongestionConfig::new(), 0)
 }
 
 impl Operation for ControllerOperation {
-    type State = CongestionControllerAlone;
+    type State = Alone<ConfiguredCongestion>;
 
     fn play(
         self,
-        alone: &mut CongestionControllerAlone,
+        alone: &mut Alone<ConfiguredCongestion>,
         desk: &mut Desk,
         line: Line,
     ) -> Result<Line, Refusal> {
         let outcome = match self {
             Self::New { time } => {
-                Outcome::remade(CongestionControllerAlone::new(desk.settings, time)?, alone)
+                Outcome::remade(controller_alone::new(desk.settings, time)?, alone)
             }
             Self::RegisterWriter { id, class } => {
-                Outcome::left(alone.register_writer(id, class), alone)
+                Outcome::left(controller_alone::register_writer(*alone, id, class), alone)
             }
-            Self::Tick { time } => Outcome::shared_out(alone.tick(time), alone),
-            Self::OnEagain => Outcome::left(alone.on_eagain(), alone),
-            Self::OnRttSample { time, peer, sample } => {
-                Outcome::left(alone.on_rtt_sample(time, peer, sample), alone)
+            Self::Tick { time } => Outcome::shared_out(controller_alone::tick(*alone, time), alone),
+            Self::OnEagain => Outcome::left(controller_alone::on_eagain(*alone), alone),
+            Self::OnRttSample { time, peer, sample } => Outcome::left(
+                controller_alone::on_rtt_sample(*alone, time, peer, sample),
+                alone,
+            ),
+            Self::OnNacks(count) => Outcome::left(controller_alone::on_nacks(*alone, count), alone),
+            Self::OnEcnTos(tos) => Outcome::told(controller_alone::on_ecn_tos(*alone, tos), alone),
+            Self::OnEcnCe => Outcome::left(controller_alone::on_ecn_ce(*alone), alone),
+            Self::SetRate { time, rate } => {
+                Outcome::shared_out(controller_alone::set_rate(*alone, time, rate), alone)
             }
-            Self::OnNacks(count) => Outcome::left(alone.on_nacks(count), alone),
-            Self::OnEcnTos(tos) => Outcome::told(alone.on_ecn_tos(tos), alone),
-            Self::OnEcnCe => Outcome::left(alone.on_ecn_ce(), alone),
-            Self::SetRate { time, rate } => Outcome::shared_out(alone.set_rate(time, rate), alone),
             Self::Calls(calls) => Outcome::remade(alone.resumed(calls), alone),
         };
-        Ok(with_alone(line.with(outcome), *alone, outcome.updated))
+        Ok(with_alone(line.with(outcome), alone, outcome.updated))
     }
 
     fn nothing(line: Line) -> Line {
@@ -104,11 +108,11 @@ impl Operation for ControllerOperation {
 }
 
 // The controller under its ledger, and the digests of its tables and of the updates.
-fn with_alone(line: Line, alone: CongestionControllerAlone, updated: bool) -> Line {
-    let controller = alone.controller();
-    line.with(alone.config().enabled)
-        .with(controller)
-        .with(alone.ledger())
+fn with_alone(line: Line, alone: &Alone<ConfiguredCongestion>, updated: bool) -> Line {
+    let controller = &alone.inner.controller;
+    line.with(alone.inner.config.enabled)
+        .with(*controller)
+        .with(alone.ledger)
         .with(writers(controller.allocator()))
         .with(updates_if(updated, controller.allocator()))
         .with(peers_ops::digest(controller.tracker()))
@@ -117,8 +121,9 @@ fn with_alone(line: Line, alone: CongestionControllerAlone, updated: bool) -> Li
 // All but whether it is enabled, and the digests of its tables.
 impl Shown for CongestionController {
     fn show(self, line: Line) -> Line {
-        let tracker = self.tracker();
-        line.with(self.core()).with(self.allocator()).with(tracker)
+        line.with(self.core())
+            .with(*self.allocator())
+            .with(*self.tracker())
     }
 }
 

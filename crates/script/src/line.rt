@@ -3,8 +3,8 @@ use crate::digest::{DIGEST_START, joined};
 use arrayvec::ArrayVec;
 use config::ledger::Ledger;
 use config::refusal::{ACCEPTED, Refusal};
-use numeric::float::{bits_of_f32, bits_of_f64};
 use std::fmt;
+use std::num::{f32_to_bits_with_nan, f64_to_bits_with_nan};
 
 // The most numbers in a line, the operation's among them.
 const MOST_NUMBERS: usize = 59;
@@ -109,16 +109,16 @@ impl Shown for bool {
     }
 }
 
-// Its bits.
+// Its bits, one quiet pattern for every NaN.
 impl Shown for f32 {
     fn show(self, line: Line) -> Line {
-        line.with(bits_of_f32(self))
+        line.with(f32_to_bits_with_nan(self))
     }
 }
 
 impl Shown for f64 {
     fn show(self, line: Line) -> Line {
-        line.with(bits_of_f64(self))
+        line.with(f64_to_bits_with_nan(self))
     }
 }
 

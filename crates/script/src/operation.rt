@@ -4,6 +4,7 @@ use crate::line::Line;
 use crate::words::{Record, Unknown};
 use config::alone::Left;
 use config::refusal::Refusal;
+use std::mem;
 
 // An operation of a suite, with its arguments.
 pub(crate) trait Operation: TryFrom<Record, Error = Unknown> {
@@ -38,6 +39,17 @@ pub(crate) fn taken<S: Drop, T>(left: Left<S, T>, state: &mut S) -> Result<T, Re
     let Left { state: now, answer } = left;
     *state = now;
     answer
+}
+
+// A call by value on a state that is lent: the blank stands in for it meanwhile.
+pub(crate) fn by_value<S: Drop, T, Call: FnOnce(S) -> Left<S, T>>(
+    state: &mut S,
+    blank: S,
+    call: Call,
+) -> Result<T, Refusal>
+    requires { Call.IsAlwaysCallable call }
+{
+    taken(call(mem::replace(state, blank)), state)
 }
 
 // Takes over what was made, or the zero of it where that was turned down; it gives nothing.

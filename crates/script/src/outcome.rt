@@ -29,42 +29,57 @@ impl Outcome {
         Outcome::accepted()
     }
 
-    // What a call leaves is taken over; of its answer the number alone counts.
-    pub(crate) fn left<S: Drop, T: Numbered + Drop>(left: Left<S, T>, state: &mut S) -> Outcome {
+    // Of an answer the number alone counts.
+    pub(crate) fn plain<T: Numbered + Drop>(answer: Result<T, Refusal>) -> Outcome {
         Outcome {
-            number: taken(left, state).number(),
+            number: answer.number(),
             ..Outcome::accepted()
         }
     }
 
-    // The same of a call that gives a flag.
-    pub(crate) fn told<S: Drop>(left: Left<S, bool>, state: &mut S) -> Outcome {
-        Outcome::of(taken(left, state))
+    // An answer that gives a flag.
+    pub(crate) fn flag(answer: Result<bool, Refusal>) -> Outcome {
+        Outcome {
+            number: answer.map(|_| ()).number(),
+            told: answer.unwrap_or(false),
+            updated: false,
+        }
     }
 
     // The same where the flag tells that budgets were shared out.
-    pub(crate) fn shared_out<S: Drop>(left: Left<S, bool>, state: &mut S) -> Outcome {
-        let outcome = Outcome::told(left, state);
+    pub(crate) fn shared(answer: Result<bool, Refusal>) -> Outcome {
+        let outcome = Outcome::flag(answer);
         Outcome {
             updated: outcome.told,
             ..outcome
         }
     }
 
-    // The same of a rate, which is shared out where it is not turned down.
-    pub(crate) fn rated<S: Drop>(left: Left<S, ()>, state: &mut S) -> Outcome {
-        let outcome = Outcome::left(left, state);
-        Outcome {
-            updated: outcome.number == ACCEPTED,
-            ..outcome
-        }
+    // A rate is shared out where it is not turned down, which it tells.
+    pub(crate) fn rate(answer: Result<(), Refusal>) -> Outcome {
+        Outcome::shared(answer.map(|()| true))
     }
 
-    fn of(answer: Result<bool, Refusal>) -> Outcome {
+    // What a call by value leaves is taken over; of its answer the number alone counts.
+    pub(crate) fn left<S: Drop, T: Numbered + Drop>(left: Left<S, T>, state: &mut S) -> Outcome {
+        Outcome::plain(taken(left, state))
+    }
+
+    // The same of a call that gives a flag.
+    pub(crate) fn told<S: Drop>(left: Left<S, bool>, state: &mut S) -> Outcome {
+        Outcome::flag(taken(left, state))
+    }
+
+    // The same where the flag tells that budgets were shared out.
+    pub(crate) fn shared_out<S: Drop>(left: Left<S, bool>, state: &mut S) -> Outcome {
+        Outcome::shared(taken(left, state))
+    }
+
+    // The same of a rate, but that it is shared out is not told.
+    pub(crate) fn rated<S: Drop>(left: Left<S, ()>, state: &mut S) -> Outcome {
         Outcome {
-            number: answer.map(|_| ()).number(),
-            told: answer.unwrap_or(false),
-            updated: false,
+            told: false,
+            ..Outcome::rate(taken(left, state))
         }
     }
 }

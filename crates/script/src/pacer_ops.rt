@@ -1,15 +1,19 @@
 // The writer pacer, over the settings, the byte buffer and the lent part of the pool.
 use crate::desk::{Desk, lent_mut};
-use crate::digest::{DIGEST_START, joined_ring};
+use crate::digest::{DIGEST_START, joined_entry};
 use crate::line::{Line, Shown};
-use crate::operation::{Operation, remade, taken};
+use crate::operation::{Operation, by_value, remade};
 use crate::words::{Record, Unknown};
 use config::answer::Numbered;
 use config::config::{CongestionConfig, Priority};
 use config::refusal::Refusal;
-use pacing::coalescing::{InstanceKey, hash_bytes};
-use pacing::writer_pacer::{PacerCore, SendAction, WriterPacerAlone, WriterPacerMetrics};
-use pacing::{entries, writer_pacer};
+use pacing::pacer_counts::WriterPacerMetrics;
+use pacing::send_action::{SendAction, sent_bytes};
+use pacing::writer_pacer::WriterPacer;
+use pacing::writer_pacer_alone::WriterPacerAlone;
+use queue::coalescing::hash_bytes;
+use queue::entry::InstanceKey;
+use std::mem;
 
 #[derive(Clone, Copy)]
 pub(crate) enum PacerOperation {
@@ -78,32 +82,45 @@ impl Operation for PacerOperation {
             // The bytes of the buffer go into the lent part of the pool.
             Self::Enqueue { time, class } => {
                 let pool = lent_mut(&mut desk.pool, desk.lent);
-                taken(
-                    alone.enqueue(time, pool, class, desk.bytes.as_slice()),
+                let bytes = desk.bytes.as_slice();
+                by_value(
                     alone,
+                    first()?,
+                    |pacer| pacer.enqueue(time, pool, class, bytes),
                 )
                 .number()
             }
             Self::EnqueueP2Keyed { time, key } => {
                 let pool = lent_mut(&mut desk.pool, desk.lent);
-                taken(
-                    alone.enqueue_p2_keyed(time, pool, key, desk.bytes.as_slice()),
+                let bytes = desk.bytes.as_slice();
+                by_value(
                     alone,
+                    first()?,
+                    |pacer| pacer.enqueue_p2_keyed(time, pool, key, bytes),
                 )
                 .number()
             }
             Self::TrySend { time } => {
-                let tried = taken(alone.try_send(time, desk.lent_part()), alone);
+                let tried = by_value(
+                    alone,
+                    first()?,
+                    |pacer| pacer.try_send(time, desk.lent_part()),
+                );
                 action = tried.unwrap_or(SendAction::Empty);
                 tried.number()
             }
-            Self::SetRate { time, rate } => taken(alone.set_rate(time, rate), alone).number(),
-            Self::Calls(calls) => remade::<_, ()>(alone.resumed(calls), alone).number(),
+            Self::SetRate { time, rate } => {
+                by_value(alone, first()?, |pacer| pacer.set_rate(time, rate)).number()
+            }
+            Self::Calls(calls) => {
+                let resumed = mem::replace(alone, first()?).resumed(calls);
+                remade::<_, ()>(resumed, alone).number()
+            }
         };
-        let limits = alone.config().limits();
-        let sent = writer_pacer::sent_bytes(limits, 0, action, desk.lent_part());
+        let limits = alone.config.limits();
+        let sent = sent_bytes(limits, 0, action, desk.lent_part());
         let acted = line.with(number).with(action).with(hash_bytes(sent));
-        Ok(acted.with(*alone))
+        Ok(acted.with(&*alone))
     }
 
     fn nothing(line: Line) -> Line {
@@ -135,58 +152,40 @@ impl Shown for SendAction {
     }
 }
 
-impl Shown for WriterPacerAlone {
+impl Shown for &WriterPacerAlone {
     fn show(self, line: Line) -> Line {
-        let words = self.words();
-        let pacer = Pacer {
-            core: self.core(),
-            words: &words,
-            i: 0,
-        };
-        line.with(pacer).with(self.ledger()).with(pacer.waiting())
+        let pacer = &self.pacer;
+        line.with(pacer).with(self.ledger).with(waiting(pacer))
     }
 }
 
-// Pacer i of those whose entries and counts lie in the words.
-#[derive(Clone, Copy)]
-pub(crate) struct Pacer<'a> {
-    pub(crate) core: PacerCore,
-    pub(crate) words: &'a [u64],
-    pub(crate) i: u8,
+// A pacer of the largest queues.
+pub(crate) type Pacer = WriterPacer<128, 512, 128>;
+
+// The digest of what waits, in the order of the classes.
+pub(crate) fn waiting(pacer: &Pacer) -> u64 {
+    let p0 = joined_class(DIGEST_START, pacer, Priority::P0);
+    let p1 = joined_class(p0, pacer, Priority::P1);
+    joined_class(p1, pacer, Priority::P2)
 }
 
-impl Pacer<'_> {
-    // The digest of what waits, in the order of the classes.
-    pub(crate) fn waiting(self) -> u64 {
-        let p0 = self.joined_class(DIGEST_START, Priority::P0);
-        let p1 = self.joined_class(p0, Priority::P1);
-        self.joined_class(p1, Priority::P2)
-    }
-
-    fn joined_class(self, digest: u64, class: Priority) -> u64 {
-        let at = entries::queue_at(self.i, class);
-        joined_ring(digest, self.core.queue(class), self.words, at, class)
-    }
+fn joined_class(digest: u64, pacer: &Pacer, class: Priority) -> u64 {
+    (0..pacer.len(class)).fold(digest, |d, place| {
+        joined_entry(d, class, pacer.entry_at(class, place))
+    })
 }
 
-// All but the digest of what waits.
-impl Shown for Pacer<'_> {
-    fn show(self, line: Line) -> Line {
-        line.with(self.core)
-            .with(writer_pacer::total_bytes_p2(self.words, self.i))
-            .with(writer_pacer::metrics(self.words, self.i))
-    }
-}
-
-// The bucket, the lengths of the queues and the next sequence numbers.
-impl Shown for PacerCore {
+// All but the digest of what waits: the bucket, the lengths of the queues, the next sequence numbers, P2's bytes and the metrics.
+impl Shown for &Pacer {
     fn show(self, line: Line) -> Line {
         line.with(self.tokens())
-            .with(self.queue(Priority::P0).count())
-            .with(self.queue(Priority::P1).count())
-            .with(self.queue(Priority::P2).count())
+            .with(self.len(Priority::P0))
+            .with(self.len(Priority::P1))
+            .with(self.len(Priority::P2))
             .with(self.next_sequence())
-            .with(self.queue_p2().next_sequence())
+            .with(self.next_sequence_p2())
+            .with(self.total_bytes_p2())
+            .with(self.metrics())
     }
 }
 

@@ -6,9 +6,9 @@ use crate::operation::{Operation, made_or_zero, remade, taken};
 use crate::words::{Record, Unknown};
 use config::alone::Alone;
 use config::refusal::Refusal;
-use numeric::float::bits_of_f32;
 use signals::peer_rtt_tracker_alone;
-use signals::rtt_estimator::{PeerRttTracker, RttEstimator};
+use signals::rtt_estimator::{Peer, PeerRttTracker};
+use std::num::f32_to_bits_with_nan;
 
 #[derive(Clone, Copy)]
 pub(crate) enum PeersOperation {
@@ -66,15 +66,15 @@ impl Operation for PeersOperation {
                 alone,
             ),
             Self::Calls(calls) => remade(alone.resumed(calls), alone),
-            Self::Show { place } => return Ok(with_place(line, alone.inner, place)),
+            Self::Show { place } => return Ok(with_place(line, &alone.inner, place)),
         };
         let line = line.with(answer).with(alone.inner).with(alone.ledger);
-        Ok(line.with(digest(alone.inner)))
+        Ok(line.with(digest(&alone.inner)))
     }
 }
 
 // A place, and the peer there or zeros.
-fn with_place(line: Line, tracker: PeerRttTracker, place: usize) -> Line {
+fn with_place(line: Line, tracker: &PeerRttTracker, place: usize) -> Line {
     let line = line.with(place);
     if place < usize::from(tracker.peer_count()) {
         line.with(tracker.id_at(place))
@@ -92,25 +92,25 @@ impl Shown for PeerRttTracker {
 }
 
 // The peers in the order they were entered.
-pub(crate) fn digest(tracker: PeerRttTracker) -> u64 {
+pub(crate) fn digest(tracker: &PeerRttTracker) -> u64 {
     tracker
-        .ids
+        .peers
         .iter()
-        .zip(tracker.peers.iter())
         .take(tracker.peer_count().into())
-        .fold(DIGEST_START, |d, (id, peer)| joined_peer(d, *id, *peer))
+        .fold(DIGEST_START, |d, peer| joined_peer(d, peer))
 }
 
-fn joined_peer(digest: u64, id: u32, peer: RttEstimator) -> u64 {
-    let last = peer.last_sample();
+fn joined_peer(digest: u64, peer: &Peer) -> u64 {
+    let estimator = peer.estimator;
+    let last = estimator.last_sample();
     joined(
         digest,
         &[
-            id.into(),
-            bits_of_f32(peer.rtt()).into(),
-            bits_of_f32(peer.baseline()).into(),
-            bits_of_f32(peer.variance()).into(),
-            peer.samples(),
+            peer.id.into(),
+            f32_to_bits_with_nan(estimator.rtt()).into(),
+            f32_to_bits_with_nan(estimator.baseline()).into(),
+            f32_to_bits_with_nan(estimator.variance()).into(),
+            estimator.samples(),
             last.is_some().into(),
             last.unwrap_or(0),
         ],

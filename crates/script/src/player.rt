@@ -15,7 +15,7 @@ use crate::queue_ops::QueueOperation;
 use crate::rate_ops::RateOperation;
 use crate::rtt_ops::RttOperation;
 use crate::scorer_ops::ScorerOperation;
-use crate::station_ops::StationOperation;
+use crate::station_ops::{FullStation, StationOperation};
 use crate::words::{RECORD_BYTES, Record, Unknown};
 use crate::{
     allocator_ops, bucket_ops, controller_ops, ecn_ops, pacer_ops, peers_ops, queue_ops, rate_ops,
@@ -23,16 +23,15 @@ use crate::{
 };
 use config::alone::Alone;
 use config::refusal::Refusal;
-use control::budget_allocator::BudgetAllocatorAlone;
-use control::controller::CongestionControllerAlone;
+use control::budget_allocator_alone::ConfiguredAllocator;
+use control::controller_alone::ConfiguredCongestion;
 use control::rate_controller_alone::ConfiguredController;
 use control::scorer_alone::ConfiguredScorer;
-use pacing::coalescing::CoalescingQueueAlone;
 use pacing::token_bucket::TokenBucket;
-use pacing::writer_pacer::WriterPacerAlone;
+use pacing::writer_pacer_alone::WriterPacerAlone;
+use queue::coalescing_alone::CoalescingQueueAlone;
 use signals::ecn::EcnProcessor;
 use signals::rtt_estimator::{PeerRttTracker, RttEstimator};
-use station::station::Station;
 use std::io;
 use std::io::Write;
 
@@ -90,9 +89,9 @@ pub(crate) struct Modules {
     pacer: WriterPacerAlone,
     rate: Alone<ConfiguredController>,
     scorer: Alone<ConfiguredScorer>,
-    allocator: BudgetAllocatorAlone,
-    controller: CongestionControllerAlone,
-    station: Station,
+    allocator: Alone<ConfiguredAllocator>,
+    controller: Alone<ConfiguredCongestion>,
+    station: FullStation,
 }
 
 impl Modules {

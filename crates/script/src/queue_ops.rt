@@ -1,12 +1,15 @@
 // The coalescing queue, over the byte buffer and the lent part of the pool.
 use crate::desk::{Desk, lent_mut, lent_of};
-use crate::digest::{DIGEST_START, joined_ring};
+use crate::digest::{DIGEST_START, joined_entry};
 use crate::line::{Line, Shown};
-use crate::operation::{Operation, remade, taken};
+use crate::operation::{Operation, by_value, remade};
 use crate::words::{Record, Unknown};
 use config::config::Priority;
 use config::refusal::Refusal;
-use pacing::coalescing::{CoalescingQueueAlone, InstanceKey, Sample, hash_bytes, sample_bytes};
+use queue::coalescing::hash_bytes;
+use queue::coalescing_alone::{CoalescingQueueAlone, Sample, sample_bytes};
+use queue::entry::InstanceKey;
+use std::mem;
 
 #[derive(Clone, Copy)]
 pub(crate) enum QueueOperation {
@@ -53,17 +56,18 @@ impl Operation for QueueOperation {
             // The bytes of the buffer go into the lent part of the pool.
             Self::Insert(key) => {
                 let pool = lent_mut(&mut desk.pool, desk.lent);
-                taken(alone.insert(pool, key, desk.bytes.as_slice()), alone).and(Ok(None))
+                let bytes = desk.bytes.as_slice();
+                by_value(alone, first()?, |queue| queue.insert(pool, key, bytes)).and(Ok(None))
             }
-            Self::PopFront => taken(alone.pop_front(desk.lent_part()), alone),
+            Self::PopFront => by_value(alone, first()?, |queue| queue.pop_front(desk.lent_part())),
             Self::PeekFront => {
                 readable = desk.pool.len();
                 Ok(alone.peek_front())
             }
-            Self::Calls(calls) => remade(alone.resumed(calls), alone),
+            Self::Calls(calls) => remade(mem::replace(alone, first()?).resumed(calls), alone),
         };
         let bytes = sample_bytes(front.unwrap_or(None), lent_of(&desk.pool, readable));
-        Ok(line.with(front).with(hash_bytes(bytes)).with(*alone))
+        Ok(line.with(front).with(hash_bytes(bytes)).with(&*alone))
     }
 
     fn nothing(line: Line) -> Line {
@@ -88,19 +92,20 @@ impl Shown for Option<Sample> {
     }
 }
 
-impl Shown for CoalescingQueueAlone {
+impl Shown for &CoalescingQueueAlone {
     fn show(self, line: Line) -> Line {
-        let queue = self.queue();
-        let ring = queue.ring();
-        let stats = self.stats();
-        let waiting = joined_ring(DIGEST_START, ring, &self.words(), 0, Priority::P2);
-        line.with(ring.count())
-            .with(ring.limit())
+        let queue = &self.queue;
+        let stats = queue.stats();
+        let waiting = (0..queue.len()).fold(DIGEST_START, |d, place| {
+            joined_entry(d, Priority::P2, queue.entry_at(place))
+        });
+        line.with(queue.len())
+            .with(queue.limit())
             .with(queue.next_sequence())
             .with(stats.coalesced)
             .with(stats.dropped)
             .with(stats.bytes)
-            .with(self.ledger().calls())
+            .with(self.ledger.calls())
             .with(waiting)
     }
 }

@@ -3,21 +3,22 @@ use crate::allocator_ops::{updates_if, writers};
 use crate::desk::{Desk, lent_mut};
 use crate::digest::{DIGEST_START, joined};
 use crate::line::{Line, Shown};
-use crate::operation::{Operation, taken};
+use crate::operation::Operation;
 use crate::outcome::Outcome;
-use crate::pacer_ops::{Pacer, narrow};
+use crate::pacer_ops::{Pacer, narrow, waiting};
 use crate::peers_ops;
 use crate::words::{Record, Unknown};
 use config::answer::Numbered;
 use config::config::Priority;
 use config::refusal::Refusal;
 use control::budget_allocator::BudgetAllocator;
-use pacing::coalescing::{InstanceKey, hash_bytes};
-use pacing::pool::Limits;
-use pacing::writer_pacer::SendAction;
-use pacing::{entries, pool, writer_pacer};
-use station::roster::Roster;
+use pacing::send_action::SendAction;
+use queue::coalescing::hash_bytes;
+use queue::entry::InstanceKey;
+use queue::pool;
+use queue::pool::Limits;
 use station::station::{Station, sent_bytes};
+use std::mem;
 
 #[derive(Clone, Copy)]
 pub(crate) enum StationOperation {
@@ -88,39 +89,42 @@ impl From<Record> for HandedIn {
     }
 }
 
+// A station of the largest queues.
+pub(crate) type FullStation = Station<128, 512, 128>;
+
 // Before the first record.
-pub(crate) fn first() -> Result<Station, Refusal> {
-    Station::new(narrow(), 0)
+pub(crate) fn first() -> Result<FullStation, Refusal> {
+    FullStation::new(narrow(), 0)
 }
 
 impl Operation for StationOperation {
-    type State = Station;
+    type State = FullStation;
 
-    fn play(self, station: &mut Station, desk: &mut Desk, line: Line) -> Result<Line, Refusal> {
+    fn play(self, station: &mut FullStation, desk: &mut Desk, line: Line) -> Result<Line, Refusal> {
         let outcome = match self {
-            Self::New { time } => Outcome::remade(Station::new(desk.settings, time)?, station),
-            Self::Register { time, id, class } => {
-                Outcome::left(station.register(time, id, class), station)
-            }
-            Self::Eagain { time } => Outcome::left(station.on_eagain(time), station),
-            Self::Tos { time, tos } => Outcome::told(station.on_ecn_tos(time, tos), station),
-            Self::Nacks { time, count } => Outcome::left(station.on_nacks(time, count), station),
+            Self::New { time } => Outcome::remade(FullStation::new(desk.settings, time)?, station),
+            Self::Register { time, id, class } => Outcome::plain(station.register(time, id, class)),
+            Self::Eagain { time } => Outcome::plain(station.on_eagain(time)),
+            Self::Tos { time, tos } => Outcome::flag(station.on_ecn_tos(time, tos)),
+            Self::Nacks { time, count } => Outcome::plain(station.on_nacks(time, count)),
             Self::Rtt { time, peer, sample } => {
-                Outcome::left(station.on_rtt_sample(time, peer, sample), station)
+                Outcome::plain(station.on_rtt_sample(time, peer, sample))
             }
-            Self::Tick { time } => Outcome::shared_out(station.tick(time), station),
-            Self::SetRate { time, rate } => set_rate(station, time, rate),
+            Self::Tick { time } => Outcome::shared(station.tick(time)),
+            Self::SetRate { time, rate } => Outcome::rate(station.set_rate(time, rate)),
             Self::HandIn(handed) => hand_in(station, desk, handed),
             Self::Send { time, i } => return Ok(send(station, desk, time, i, line)),
-            Self::Calls(calls) => Outcome::remade(station.resumed(calls), station),
-            Self::Place { i } => return Ok(place_shown(line, *station, i)),
-            Self::Controller => return Ok(with_controller(line, *station)),
+            Self::Calls(calls) => {
+                Outcome::remade(mem::replace(station, first()?).resumed(calls), station)
+            }
+            Self::Place { i } => return Ok(line.with(Place::at(station, i))),
+            Self::Controller => return Ok(with_controller(line, station)),
         };
         let quiet = line
             .with(outcome)
             .with(SendAction::Empty)
             .with(DIGEST_START);
-        Ok(with_station(quiet, *station, outcome.updated, &desk.pool))
+        Ok(with_station(quiet, station, outcome.updated, &desk.pool))
     }
 
     fn nothing(line: Line) -> Line {
@@ -128,26 +132,16 @@ impl Operation for StationOperation {
     }
 }
 
-// A rate that is not turned down is shared out, which it tells.
-fn set_rate(station: &mut Station, time: u64, rate: u32) -> Outcome {
-    let outcome = Outcome::rated(station.set_rate(time, rate), station);
-    Outcome {
-        told: outcome.updated,
-        ..outcome
-    }
-}
-
 // The bytes of the buffer go into the lent part of the pool.
-fn hand_in(station: &mut Station, desk: &mut Desk, handed: HandedIn) -> Outcome {
+fn hand_in(station: &mut FullStation, desk: &mut Desk, handed: HandedIn) -> Outcome {
     let pool = lent_mut(&mut desk.pool, desk.lent);
     let bytes = desk.bytes.as_slice();
-    let left = station.hand_in(pool, handed.time, handed.i, handed.class, handed.key, bytes);
-    Outcome::left(left, station)
+    Outcome::plain(station.hand_in(pool, handed.time, handed.i, handed.class, handed.key, bytes))
 }
 
 // A send attempt, and its line: the action, and the bytes of a sent record as the lent part of the pool holds them.
-fn send(station: &mut Station, desk: &Desk, time: u64, i: u8, line: Line) -> Line {
-    let answer = taken(station.send(desk.lent_part(), time, i), station);
+fn send(station: &mut FullStation, desk: &Desk, time: u64, i: u8, line: Line) -> Line {
+    let answer = station.send(desk.lent_part(), time, i);
     let action = answer.unwrap_or(SendAction::Empty);
     let bytes = sent_bytes(station.config().pacer(), i, action, desk.lent_part());
     let acted = line
@@ -155,35 +149,28 @@ fn send(station: &mut Station, desk: &Desk, time: u64, i: u8, line: Line) -> Lin
         .with(false)
         .with(action)
         .with(hash_bytes(bytes));
-    with_station(acted, *station, false, &desk.pool)
-}
-
-fn place_shown(line: Line, station: Station, i: u8) -> Line {
-    let words = station.words();
-    line.with(Place::at(station.roster(), &words, i))
+    with_station(acted, station, false, &desk.pool)
 }
 
 // The ledger, the rate, the score, the count of writers and their budgets; the places; and the digests of the controller, of
 // the updates and of the bytes that wait.
-fn with_station(line: Line, station: Station, updated: bool, pool: &[u8]) -> Line {
-    let words = station.words();
-    let roster = station.roster();
-    let controller = station.controller();
+fn with_station(line: Line, station: &FullStation, updated: bool, pool: &[u8]) -> Line {
+    let controller = &station.controller;
     let core = controller.core();
     let headed = line
         .with(station.ledger())
         .with(core.rate())
         .with(core.scorer().score())
-        .with(roster.count());
+        .with(station.roster.count());
     let limits = station.config().pacer().limits();
-    with_places(with_budgets(headed, controller.allocator()), roster, &words)
+    with_places(with_budgets(headed, controller.allocator()), station)
         .with(with_controller(Line::empty(), station).digest())
         .with(updates_if(updated, controller.allocator()))
-        .with(waiting_bytes(limits, roster, &words, pool))
+        .with(waiting_bytes(limits, station, pool))
 }
 
 // Those of the table's first four rows; a blank row has 0.
-fn with_budgets(line: Line, allocator: BudgetAllocator) -> Line {
+fn with_budgets(line: Line, allocator: &BudgetAllocator) -> Line {
     let table = allocator.table();
     let mut line = line;
     for place in 0..4 {
@@ -193,64 +180,69 @@ fn with_budgets(line: Line, allocator: BudgetAllocator) -> Line {
 }
 
 // Of each place the bucket, P0's forced sends, and the digest of all that is shown of it.
-fn with_places(line: Line, roster: Roster, words: &[u64]) -> Line {
+fn with_places(line: Line, station: &FullStation) -> Line {
     let mut line = line;
     for i in 0..PLACES as u8 {
-        let place = Place::at(roster, words, i);
-        line = line
-            .with(place.pacer.core.tokens())
-            .with(writer_pacer::metrics(words, i).force_sends_p0)
-            .with(Line::empty().with(place).digest());
+        let place = Place::at(station, i);
+        line = match place.pacer {
+            Some(pacer) => line
+                .with(pacer.tokens())
+                .with(pacer.metrics().force_sends_p0),
+            None => line.with_zeros(5),
+        };
+        line = line.with(Line::empty().with(place).digest());
     }
     line
 }
 
 // The controller and the digests of its tables.
-fn with_controller(line: Line, station: Station) -> Line {
-    let controller = station.controller();
+fn with_controller(line: Line, station: &FullStation) -> Line {
+    let controller = &station.controller;
     line.with(station.config().controller().enabled)
-        .with(controller)
+        .with(*controller)
         .with(writers(controller.allocator()))
         .with(peers_ops::digest(controller.tracker()))
 }
 
-// A place of the roster: its writer's id, and its pacer.
+// A place of the roster: its number, its writer's id, and its pacer where a writer has it.
 #[derive(Clone, Copy)]
 struct Place<'a> {
+    i: u8,
     id: u64,
-    pacer: Pacer<'a>,
+    pacer: Option<&'a Pacer>,
 }
 
 impl Place<'_> {
-    fn at(roster: Roster, words: &[u64], i: u8) -> Place<'_> {
+    fn at(station: &FullStation, i: u8) -> Place<'_> {
+        let roster = &station.roster;
+        let taken = i < roster.count();
         Place {
+            i,
             id: roster.id(i),
-            pacer: Pacer {
-                core: roster.pacer(i),
-                words,
-                i,
-            },
+            pacer: if taken { roster.pacer(i) } else { None },
         }
     }
 }
 
-// Its number, the writer's id, its pacer and what waits.
+// Its number, the writer's id, its pacer and what waits; of a place that no writer has, zeros.
 impl Shown for Place<'_> {
     fn show(self, line: Line) -> Line {
-        line.with(self.pacer.i)
-            .with(self.id)
-            .with(self.pacer)
-            .with(self.pacer.waiting())
+        let headed = line.with(self.i).with(self.id);
+        match self.pacer {
+            Some(pacer) => headed.with(pacer).with(waiting(pacer)),
+            None => headed.with_zeros(22).with(DIGEST_START),
+        }
     }
 }
 
 // The digest of the digests of every waiting record's bytes, as the pool holds them; a place that no writer has holds nothing.
-fn waiting_bytes(limits: Limits, roster: Roster, words: &[u64], pool: &[u8]) -> u64 {
+fn waiting_bytes(limits: Limits, station: &FullStation, pool: &[u8]) -> u64 {
     let mut digest = DIGEST_START;
     for i in 0..PLACES as u8 {
-        let pacer = Place::at(roster, words, i).pacer;
-        for class in [Priority::P0, Priority::P1, Priority::P2] {
-            digest = joined_class(digest, limits, pacer, class, pool);
+        if let Some(pacer) = Place::at(station, i).pacer {
+            for class in [Priority::P0, Priority::P1, Priority::P2] {
+                digest = joined_class(digest, limits, pacer, i, class, pool);
+            }
         }
     }
     digest
@@ -259,27 +251,14 @@ fn waiting_bytes(limits: Limits, roster: Roster, words: &[u64], pool: &[u8]) -> 
 fn joined_class(
     digest: u64,
     limits: Limits,
-    pacer: Pacer<'_>,
+    pacer: &Pacer,
+    i: u8,
     class: Priority,
     pool: &[u8],
 ) -> u64 {
-    let ring = pacer.core.queue(class);
-    (0..ring.count()).fold(digest, |d, k| {
-        let bytes = record_at(limits, pacer, class, ring.slot_at(k), pool);
-        joined(d, &[hash_bytes(bytes)])
+    (0..pacer.len(class)).fold(digest, |d, place| {
+        let start = limits.slot_start(i, class, pacer.slot(class, place));
+        let length = pacer.entry_at(class, place).map_or(0, |e| e.entry.length);
+        joined(d, &[hash_bytes(pool::shown(pool, start, length as usize))])
     })
-}
-
-// The bytes of the record in a slot.
-fn record_at<'a>(
-    limits: Limits,
-    pacer: Pacer<'_>,
-    class: Priority,
-    slot: u16,
-    pool: &'a [u8],
-) -> &'a [u8] {
-    let at = entries::queue_at(pacer.i, class);
-    let entry = entries::look_at(pacer.words, at, class, slot);
-    let start = limits.slot_start(pacer.i, class, slot);
-    pool::shown(pool, start, entry.length as usize)
 }

@@ -80,13 +80,13 @@ impl From<Word> for bool {
 // The float whose bits are the low half.
 impl From<Word> for f32 {
     fn from(word: Word) -> f32 {
-        numeric::float::f32_of_bits(word.into())
+        std::num::f32_from_bits_with_nan(word.into())
     }
 }
 
 impl From<Word> for f64 {
     fn from(word: Word) -> f64 {
-        numeric::float::f64_of_bits(word.0)
+        std::num::f64_from_bits_with_nan(word.0)
     }
 }
 

@@ -7,7 +7,6 @@ use Rattle.signals.specs.declared.ecn.EcnCodepoint.{EcnCodepoint}
 use Rattle.signals.specs.declared.ecn.EcnCodepoint.TheVariants.{NotEct, Ect1, Ect0, Ce}
 use Rattle.signals.specs.declared.ecn.EcnProcessor.{EcnProcessor}
 use Rattle.signals.specs.declared.ecn.EcnStats.{EcnStats}
-use Rattle.signals.specs.declared.ecn.Processed.{Processed}
 
 -- RFC 3168, section 5, figure 1: the two low bits are 00 Not-ECT, 01 ECT(1), 10 ECT(0), 11 CE
 abbrev pub codepoint_of : ℕ → EcnCodepoint
@@ -79,21 +78,17 @@ window_signals p =
     le (of_bits binary64 0x3f84_7ae1_47ae_147b)
     (div binary64 (of_int binary64 (pos p.ce_in_window)) (of_int binary64 (pos p.packets_in_window)))
 
-unfoldable pub closed : EcnProcessor → Processed
+-- what a step leaves, and whether congestion is to be signalled
+unfoldable pub closed : EcnProcessor → EcnProcessor × Bool
 closed p =
-    cond (window_signals p) (record { processor = processor_of (responded p.stats) 0 0; signal = true })
-    (record { processor = processor_of p.stats 0 0; signal = false })
+    cond (window_signals p) (processor_of (responded p.stats) 0 0, true) (processor_of p.stats 0 0, false)
 
 -- a window of 100 packets is full
-abbrev pub judged : EcnProcessor → Processed
-judged p = cond (leb 100 p.packets_in_window) (closed p) (record { processor = p; signal = false })
+abbrev pub judged : EcnProcessor → EcnProcessor × Bool
+judged p = cond (leb 100 p.packets_in_window) (closed p) (p, false)
 
-unfoldable pub processed_tos : EcnProcessor → ℕ → Processed
+unfoldable pub processed_tos : EcnProcessor → ℕ → EcnProcessor × Bool
 processed_tos p tos = judged (counted p (codepoint_of tos))
 
-unfoldable pub processed_ce : EcnProcessor → Processed
-processed_ce p =
-    record {
-      processor = processor_of (responded (recorded p.stats Ce)) p.ce_in_window p.packets_in_window;
-      signal = true;
-    }
+unfoldable pub processed_ce : EcnProcessor → EcnProcessor × Bool
+processed_ce p = (processor_of (responded (recorded p.stats Ce)) p.ce_in_window p.packets_in_window, true)

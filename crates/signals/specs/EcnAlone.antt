@@ -7,15 +7,10 @@ use Rattle.config.specs.declared.alone.Alone.{Alone}
 use Rattle.config.specs.declared.alone.Left.{Left}
 use Rattle.signals.specs.Ecn.{processed_tos, processed_ce}
 use Rattle.signals.specs.declared.ecn.EcnProcessor.{EcnProcessor}
-use Rattle.signals.specs.declared.ecn.Processed.{Processed}
-
--- what a step leaves, and whether it signals
-abbrev pub told : Processed → EcnProcessor × Bool
-told q = (q.processor, q.signal)
 
 -- what a call answers and leaves, where q is what its step gives
-abbrev pub answered_by : Alone EcnProcessor → Processed → Left (Alone EcnProcessor) Bool
-answered_by a q = answered a (verdict_of (counted_checks a.ledger)) (counted a.ledger) (told q)
+abbrev pub answered_by : Alone EcnProcessor → EcnProcessor × Bool → Left (Alone EcnProcessor) Bool
+answered_by a q = answered a (verdict_of (counted_checks a.ledger)) (counted a.ledger) q
 
 unfoldable pub tos_alone : Alone EcnProcessor → ℕ → Left (Alone EcnProcessor) Bool
 tos_alone a tos = answered_by a (processed_tos a.inner tos)

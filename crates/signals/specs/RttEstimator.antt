@@ -1,9 +1,10 @@
 -- Round-trip times (RFC 6298, section 2): f32, alpha 0.125, beta 0.25. Definitions only.
-use Rattle.std.specs.Prelude.{ℕ, ◌+◌, min, Bool, false, cond, List, Option, Some, None, ltb, leb, eqb, Float, get_or, set, replicate}
+use Rattle.std.specs.Prelude.{ℕ, ◌+◌, min, Bool, false, cond, List, Option, Some, None, ltb, leb, eqb, Float, get_or, set, replicate, take}
 use Rattle.std.specs.Float.{nan, binary32}
 use Rattle.std.specs.Float.Ieee.{of_bits, add, sub, mul, div, lt}
 use Rattle.numeric.specs.Float.{max_of, abs_of}
 use Rattle.numeric.specs.Search.{first}
+use Rattle.signals.specs.declared.rtt_estimator.Peer.{Peer}
 use Rattle.signals.specs.declared.rtt_estimator.PeerRow.{PeerRow}
 use Rattle.signals.specs.declared.rtt_estimator.PeerRttTracker.{PeerRttTracker}
 use Rattle.signals.specs.declared.rtt_estimator.RttEstimator.{RttEstimator}
@@ -69,81 +70,90 @@ rto_of e = max_of (add binary32 e.rtt_ms (mul binary32 four e.rtt_var_ms)) one
 
 -- ---- up to 64 peers
 
-abbrev pub tracker_of : List ℕ → List RttEstimator → ℕ → Float → PeerRttTracker
-tracker_of ids peers count x = record { ids = ids; peers = peers; count = count; default_ms = x }
+abbrev pub peer_of : ℕ → RttEstimator → Peer
+peer_of id e = record { id = id; estimator = e }
+
+abbrev pub tracker_of : List Peer → ℕ → Float → PeerRttTracker
+tracker_of peers count x = record { peers = peers; count = count; default_ms = x }
 
 abbrev pub new_tracker : Float → PeerRttTracker
-new_tracker x = tracker_of (replicate 64 0) (replicate 64 (new_estimator x)) 0 x
+new_tracker x = tracker_of (replicate 64 (peer_of 0 (new_estimator x))) 0 x
 
 -- how many places of the table are taken
 abbrev pub known_of : ℕ → ℕ
 known_of count = min count 64
 
--- the first place with the id, or the number of places taken
-unfoldable pub place_of : List ℕ → ℕ → ℕ → ℕ
-place_of ids count id = first (λ (k : ℕ). eqb (get_or ids k 0) id) (known_of count)
+-- the peers that were entered
+abbrev pub peers_of : PeerRttTracker → List Peer
+peers_of t = take (known_of t.count) t.peers
 
 -- what the language's reading gives beyond an array's end; no place taken lies there
-abbrev pub no_estimator : RttEstimator
-no_estimator = estimator_of nan nan nan 0 None
+abbrev pub no_peer : Peer
+no_peer = peer_of 0 (estimator_of nan nan nan 0 None)
 
-abbrev pub estimator_at : PeerRttTracker → ℕ → RttEstimator
-estimator_at t k = get_or t.peers k no_estimator
+abbrev pub peer_at : PeerRttTracker → ℕ → Peer
+peer_at t k = get_or t.peers k no_peer
+
+-- the first place with the id, or the number of places taken
+unfoldable pub place_of : PeerRttTracker → ℕ → ℕ
+place_of t id = first (λ (k : ℕ). eqb (peer_at t k).id id) (known_of t.count)
 
 -- what is shown of a place: the peer's, or zero where none stands
 abbrev pub id_at : PeerRttTracker → ℕ → ℕ
-id_at t k = cond (ltb k (known_of t.count)) (get_or t.ids k 0) 0
+id_at t k = cond (ltb k (known_of t.count)) (peer_at t k).id 0
 
 abbrev pub shown_at : PeerRttTracker → ℕ → RttEstimator
-shown_at t k = cond (ltb k (known_of t.count)) (estimator_at t k) (new_estimator zero32)
+shown_at t k = cond (ltb k (known_of t.count)) (peer_at t k).estimator (new_estimator zero32)
 
--- a peer that is there
+-- a peer after a sample
+abbrev pub peer_updated : Peer → ℕ → Float → Peer
+peer_updated p time x = peer_of p.id (updated p.estimator time x)
+
+-- a peer with its first sample
+abbrev pub peer_entered : Float → ℕ → ℕ → Float → Peer
+peer_entered default time id x = peer_of id (updated (new_estimator default) time x)
+
+-- a peer that is there, and one that is entered
 abbrev pub updated_at : PeerRttTracker → ℕ → ℕ → Float → PeerRttTracker
-updated_at t k time x =
-    tracker_of t.ids (set t.peers k (updated (estimator_at t k) time x)) t.count t.default_ms
+updated_at t k time x = tracker_of (set t.peers k (peer_updated (peer_at t k) time x)) t.count t.default_ms
 
--- a peer that is entered
 abbrev pub entered_at : PeerRttTracker → ℕ → ℕ → ℕ → Float → PeerRttTracker
-entered_at t k time id x =
-    tracker_of (set t.ids k id) (set t.peers k (updated (new_estimator t.default_ms) time x)) (k + 1)
-    t.default_ms
+entered_at t k time id x = tracker_of (set t.peers k (peer_entered t.default_ms time id x)) (k + 1) t.default_ms
 
 unfoldable pub tracker_updated : PeerRttTracker → ℕ → ℕ → Float → PeerRttTracker
 tracker_updated t time id x =
-    cond (ltb (place_of t.ids t.count id) (known_of t.count))
-    (updated_at t (place_of t.ids t.count id) time x)
+    cond (ltb (place_of t id) (known_of t.count)) (updated_at t (place_of t id) time x)
     (cond (ltb (known_of t.count) 64) (entered_at t (known_of t.count) time id x) t)
 
 -- not there, and 64 are
 unfoldable pub full_for : PeerRttTracker → ℕ → Bool
-full_for t id =
-    cond (ltb (place_of t.ids t.count id) (known_of t.count)) false (leb 64 (known_of t.count))
+full_for t id = cond (ltb (place_of t id) (known_of t.count)) false (leb 64 (known_of t.count))
 
 -- ---- the same on one row of the table, for a loop that keeps the table and hands on a row. Nothing new: on the row at `seat_of` a sample comes to
 -- `tracker_updated` and `full_for` (`row_like`, proofs/Peers.antt)
 
-abbrev pub row_of : ℕ → RttEstimator → ℕ → Float → PeerRow
-row_of id e count x = record { id = id; estimator = e; count = count; default_ms = x }
+abbrev pub row_of : Peer → ℕ → Float → PeerRow
+row_of p count x = record { peer = p; count = count; default_ms = x }
 
 -- the place that a peer's sample goes to: its own or the next, and the last where there is none
-unfoldable pub seat_of : List ℕ → ℕ → ℕ → ℕ
-seat_of ids count id = min (place_of ids count id) 63
+unfoldable pub seat_of : PeerRttTracker → ℕ → ℕ
+seat_of t id = min (place_of t id) 63
 
 abbrev pub row_at : PeerRttTracker → ℕ → PeerRow
-row_at t k = row_of (get_or t.ids k 0) (estimator_at t k) t.count t.default_ms
+row_at t k = row_of (peer_at t k) t.count t.default_ms
 
 abbrev pub with_row : PeerRttTracker → ℕ → PeerRow → PeerRttTracker
-with_row t k r = tracker_of (set t.ids k r.id) (set t.peers k r.estimator) r.count t.default_ms
+with_row t k r = tracker_of (set t.peers k r.peer) r.count t.default_ms
 
 -- row k after a peer's sample: behind the last row the peer is new, in its own row it has one sample more, and another's row stays: the table is full
 unfoldable pub row_entered : PeerRow → ℕ → ℕ → ℕ → Float → Option PeerRow
 row_entered r k time id x =
     cond (leb (known_of r.count) k)
-    (Some (row_of id (updated (new_estimator r.default_ms) time x) (known_of r.count + 1) r.default_ms))
-    (cond (eqb r.id id) (Some (row_of r.id (updated r.estimator time x) r.count r.default_ms)) None)
+    (Some (row_of (peer_entered r.default_ms time id x) (known_of r.count + 1) r.default_ms))
+    (cond (eqb r.peer.id id) (Some (row_of (peer_updated r.peer time x) r.count r.default_ms)) None)
 
 abbrev pub inflated_at : PeerRttTracker → ℕ → Bool
-inflated_at t k = inflated (estimator_at t k)
+inflated_at t k = inflated (peer_at t k).estimator
 
 -- whether one of the peers is inflated: a search finds one
 unfoldable pub any_inflated : PeerRttTracker → Bool

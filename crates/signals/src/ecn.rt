@@ -30,13 +30,6 @@ pub struct EcnProcessor {
     pub(crate) packets_in_window: u32,
 }
 
-// A processor, and whether congestion is to be signalled.
-#[derive(Clone, Copy, Debug, PartialEq, Eq)]
-pub struct Processed {
-    pub processor: EcnProcessor,
-    pub signal: bool,
-}
-
 // Packets in a window.
 const WINDOW_SIZE: u32 = 100;
 
@@ -136,33 +129,28 @@ impl EcnProcessor {
         }
     }
 
-    // Counts a packet by its TOS byte; a full window is judged and emptied.
-    pub fn process_tos(self, tos: u8) -> Processed
+    // Counts a packet by its TOS byte, and tells whether congestion is to be signalled; a full window is judged and emptied.
+    pub fn process_tos(self, tos: u8) -> (EcnProcessor, bool)
         ensures { result ≡ processed_tos self tos }
     {
-        let p = self.count_packet(EcnCodepoint::from(tos));
-        if p.packets_in_window >= WINDOW_SIZE {
-            p.close_window()
+        let counted = self.count_packet(EcnCodepoint::from(tos));
+        if counted.packets_in_window >= WINDOW_SIZE {
+            counted.close_window()
         } else {
-            Processed {
-                processor: p,
-                signal: false,
-            }
+            (counted, false)
         }
     }
 
     // A single mark is signalled at once; it counts in no window.
-    pub fn process_ce(self) -> Processed
+    pub fn process_ce(self) -> (EcnProcessor, bool)
         ensures { result ≡ processed_ce self }
     {
         let stats = self.stats.record_packet(EcnCodepoint::Ce);
-        Processed {
-            processor: EcnProcessor {
-                stats: stats.record_ce_response(),
-                ..self
-            },
-            signal: true,
-        }
+        let marked = EcnProcessor {
+            stats: stats.record_ce_response(),
+            ..self
+        };
+        (marked, true)
     }
 
     // Not-ECT counts in no window.
@@ -192,34 +180,27 @@ impl EcnProcessor {
     fn check_window(self) -> bool
         ensures { result ≡ window_signals self }
     {
-        let ce = numeric::float::f64_of_u64(u64::from(self.ce_in_window));
-        let packets = numeric::float::f64_of_u64(u64::from(self.packets_in_window));
+        let ce = f64::from(self.ce_in_window);
+        let packets = f64::from(self.packets_in_window);
         ce / packets >= 0.01
     }
 
     // The window is judged, and a new one begins.
-    fn close_window(self) -> Processed
+    fn close_window(self) -> (EcnProcessor, bool)
         ensures { result ≡ closed self }
     {
+        let signal = self.check_window();
+        let stats = if signal {
+            self.stats.record_ce_response()
+        } else {
+            self.stats
+        };
         let emptied = EcnProcessor {
+            stats,
             ce_in_window: 0,
             packets_in_window: 0,
-            ..self
         };
-        if self.check_window() {
-            Processed {
-                processor: EcnProcessor {
-                    stats: self.stats.record_ce_response(),
-                    ..emptied
-                },
-                signal: true,
-            }
-        } else {
-            Processed {
-                processor: emptied,
-                signal: false,
-            }
-        }
+        (emptied, signal)
     }
 
     pub fn stats(self) -> EcnStats

@@ -1,8 +1,8 @@
 // A processor used alone: `Alone::new(0, EcnProcessor::new())` is one with no call yet. Its calls take no times.
 ghost use Rattle.std.specs.Prelude.{◌≡◌};
-ghost use Rattle.signals.specs.EcnAlone.{told, tos_alone, ce_alone};
+ghost use Rattle.signals.specs.EcnAlone.{tos_alone, ce_alone};
 
-use crate::ecn::{EcnProcessor, Processed};
+use crate::ecn::EcnProcessor;
 use config::alone::{Alone, Left};
 
 // Counts a packet by its TOS byte, and tells whether congestion is to be signalled.
@@ -11,7 +11,7 @@ pub fn process_tos(alone: Alone<EcnProcessor>, tos: u8) -> Left<Alone<EcnProcess
 {
     let ledger = alone.ledger;
     alone.after(ledger.check_counted(), ledger.counted(), |processor| {
-        told(processor.process_tos(tos))
+        processor.process_tos(tos)
     })
 }
 
@@ -21,13 +21,6 @@ pub fn process_ce(alone: Alone<EcnProcessor>) -> Left<Alone<EcnProcessor>, bool>
 {
     let ledger = alone.ledger;
     alone.after(ledger.check_counted(), ledger.counted(), |processor| {
-        told(processor.process_ce())
+        processor.process_ce()
     })
-}
-
-// What a step leaves, and whether it signals.
-fn told(processed: Processed) -> (EcnProcessor, bool)
-    ensures { result ≡ told processed }
-{
-    (processed.processor, processed.signal)
 }

@@ -28,7 +28,10 @@ pub fn update(
     alone.after(
         check_peer(alone, time, peer_id, rtt_ms),
         ledger.moved(time),
-        |tracker| (tracker.update(time, peer_id, rtt_ms), ()),
+        |mut tracker| {
+            tracker.update(time, peer_id, rtt_ms);
+            (tracker, ())
+        },
     )
 }
 

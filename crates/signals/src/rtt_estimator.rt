@@ -1,7 +1,7 @@
 // Round-trip times: an average, its variance and the least sample, for one peer and for up to 64.
 ghost use Rattle.std.specs.Prelude.{◌≡◌, ◌<◌, not};
 ghost use Rattle.config.specs.Refusal.{verdict_of};
-ghost use Rattle.signals.specs.RttEstimator.{lesser_of, new_estimator, updated, inflated, rto_of, place_of, known_of, new_tracker, seat_of, row_entered, tracker_updated, full_for, any_inflated, id_at, shown_at};
+ghost use Rattle.signals.specs.RttEstimator.{lesser_of, new_estimator, updated, inflated, rto_of, place_of, known_of, peers_of, new_tracker, seat_of, row_entered, tracker_updated, full_for, any_inflated, id_at, shown_at};
 ghost use Rattle.signals.specs.RttEstimatorAlone.{sample_out, sample_checks};
 
 use config::ledger::Ledger;
@@ -13,11 +13,11 @@ const MOST_PEERS: usize = 64;
 // Milliseconds: the average, the least sample and the variance; how many samples came, and when the last did.
 #[derive(Clone, Copy, Debug, PartialEq)]
 pub struct RttEstimator {
-    pub(crate) rtt_ms: f32,
-    pub(crate) rtt_min_ms: f32,
-    pub(crate) rtt_var_ms: f32,
-    pub(crate) samples: u64,
-    pub(crate) last_sample: Option<u64>,
+    pub rtt_ms: f32,
+    pub rtt_min_ms: f32,
+    pub rtt_var_ms: f32,
+    pub samples: u64,
+    pub last_sample: Option<u64>,
 }
 
 // The lesser of a sample and the least so far.
@@ -126,12 +126,18 @@ impl RttEstimator {
     }
 }
 
-// Up to 64 peers in the order they were entered. Stays: ids and peers are two arrays, since a loop over samples searches the ids alone and
-// reads and writes one row.
+// A peer's id and its estimator.
+#[derive(Clone, Copy, Debug, PartialEq)]
+pub struct Peer {
+    pub id: u32,
+    pub estimator: RttEstimator,
+}
+
+// Up to 64 peers in the order they were entered. Stays: an array and a count. A controller is taken and given back by value, and so is Copy, which
+// the library's vector of fixed room is not.
 #[derive(Clone, Copy, Debug, PartialEq)]
 pub struct PeerRttTracker {
-    pub ids: [u32; 64],
-    pub peers: [RttEstimator; 64],
+    pub peers: [Peer; 64],
     pub count: u16,
     pub default_ms: f32,
 }
@@ -139,8 +145,7 @@ pub struct PeerRttTracker {
 // One place of a tracker, its count and its default: all that a sample reads once its place is known, and more than it changes.
 #[derive(Clone, Copy, Debug, PartialEq)]
 pub struct PeerRow {
-    pub id: u32,
-    pub estimator: RttEstimator,
+    pub peer: Peer,
     pub count: u16,
     pub default_ms: f32,
 }
@@ -152,22 +157,6 @@ fn known(count: u16) -> usize
     usize::from(count).min(MOST_PEERS)
 }
 
-// The place of a peer, or the number of places taken where it is not there.
-fn place_of(ids: &[u32; 64], count: u16, peer_id: u32) -> usize
-    ensures { result ≡ place_of ids.now count peer_id }
-{
-    let n = known(count);
-    ids[..n].iter().position(|id| *id == peer_id).unwrap_or(n)
-}
-
-// The place that a peer's sample goes to: its own, or the next free one; in a full table that a new peer cannot enter, the last.
-pub fn seat_of(ids: &[u32; 64], count: u16, peer_id: u32) -> usize
-    ensures value { result ≡ seat_of ids.now count peer_id }
-    ensures upper_bound { result < 64 }
-{
-    place_of(ids, count, peer_id).min(MOST_PEERS - 1)
-}
-
 impl PeerRow {
     // One sample more for a peer, in the row of the place that it goes to; None where that is another's: the table is full. A loop that keeps a
     // tracker reads and writes the row itself: to hand the table to a function copies it.
@@ -176,15 +165,22 @@ impl PeerRow {
     {
         let n = known(self.count);
         if n <= at {
+            let estimator = RttEstimator::new(self.default_ms).update(time, rtt_ms);
             Some(PeerRow {
-                id: peer_id,
-                estimator: RttEstimator::new(self.default_ms).update(time, rtt_ms),
+                peer: Peer {
+                    id: peer_id,
+                    estimator,
+                },
                 count: n as u16 + 1,
                 ..self
             })
-        } else if self.id == peer_id {
+        } else if self.peer.id == peer_id {
+            let estimator = self.peer.estimator.update(time, rtt_ms);
             Some(PeerRow {
-                estimator: self.estimator.update(time, rtt_ms),
+                peer: Peer {
+                    estimator,
+                    ..self.peer
+                },
                 ..self
             })
         } else {
@@ -197,84 +193,105 @@ impl PeerRttTracker {
     pub fn new(default_ms: f32) -> PeerRttTracker
         ensures { result ≡ new_tracker default_ms }
     {
-        let estimator = RttEstimator::new(default_ms);
+        let nobody = Peer {
+            id: 0,
+            estimator: RttEstimator::new(default_ms),
+        };
         PeerRttTracker {
-            ids: [0u32; 64],
-            peers: [estimator; 64],
+            peers: [nobody; 64],
             count: 0,
             default_ms,
         }
     }
 
-    // One sample more for a peer, which is entered where it is new; a full table takes no new peer.
-    pub fn update(mut self, time: u64, peer_id: u32, rtt_ms: f32) -> PeerRttTracker
-        ensures { result ≡ tracker_updated self time peer_id rtt_ms }
-    {
-        self.update_in_place(time, peer_id, rtt_ms);
-        self
-    }
-
-    // The same on a tracker that is lent, with one search, and whether there was room for the peer.
-    pub fn update_in_place(&mut self, time: u64, peer_id: u32, rtt_ms: f32) -> bool
+    // One sample more for a peer, which is entered where it is new; whether there was room for it: a full table takes no new peer.
+    #[tactic(auto, using(std::proofs::lemmas::Grind::common_steps), unfolding(crate::specs::RttEstimator::tracker_updated, crate::specs::RttEstimator::full_for))]
+    pub fn update(&mut self, time: u64, peer_id: u32, rtt_ms: f32) -> bool
         ensures tracker_value { self.new ≡ tracker_updated self.old time peer_id rtt_ms }
         ensures room_value { result ≡ not (full_for self.old peer_id) }
     {
-        let at = seat_of(&self.ids, self.count, peer_id);
-        let row = PeerRow {
-            id: self.ids[at],
-            estimator: self.peers[at],
-            count: self.count,
-            default_ms: self.default_ms,
-        };
-        let Some(after) = row.enter(at, time, peer_id, rtt_ms) else {
+        let n = known(self.count);
+        let at = self.place_of(peer_id);
+        if at < n {
+            self.peers[at].estimator = self.peers[at].estimator.update(time, rtt_ms);
+            return true;
+        }
+        if n >= MOST_PEERS {
             return false;
+        }
+        self.peers[n] = Peer {
+            id: peer_id,
+            estimator: RttEstimator::new(self.default_ms).update(time, rtt_ms),
         };
-        self.ids[at] = after.id;
-        self.peers[at] = after.estimator;
-        self.count = after.count;
+        self.count = n as u16 + 1;
         true
     }
 
+    // The peers that were entered.
+    fn entered(&self) -> &[Peer]
+        ensures { result.now ≡ peers_of self.now }
+    {
+        &self.peers[..known(self.count)]
+    }
+
+    // The place of a peer, or the number of places taken where it is not there.
+    fn place_of(&self, peer_id: u32) -> usize
+        ensures { result ≡ place_of self.now peer_id }
+    {
+        self.entered()
+            .iter()
+            .position(|peer| peer.id == peer_id)
+            .unwrap_or(known(self.count))
+    }
+
+    // The place that a peer's sample goes to: its own, or the next free one; in a full table that a new peer cannot enter, the last.
+    pub fn seat_of(&self, peer_id: u32) -> usize
+        ensures value { result ≡ seat_of self.now peer_id }
+        ensures upper_bound { result < 64 }
+    {
+        self.place_of(peer_id).min(MOST_PEERS - 1)
+    }
+
     // Whether a peer is not there and there is no room for it.
-    pub fn is_full_for(self, peer_id: u32) -> bool
-        ensures { result ≡ full_for self peer_id }
+    pub fn is_full_for(&self, peer_id: u32) -> bool
+        ensures { result ≡ full_for self.now peer_id }
     {
         let n = known(self.count);
-        n <= place_of(&self.ids, self.count, peer_id) && MOST_PEERS <= n
+        n <= self.place_of(peer_id) && MOST_PEERS <= n
     }
 
     // Whether any peer's round-trip time is inflated.
-    pub fn any_inflated(self) -> bool
-        ensures { result ≡ any_inflated self }
+    pub fn any_inflated(&self) -> bool
+        ensures { result ≡ any_inflated self.now }
     {
-        self.peers[..known(self.count)]
+        self.entered()
             .iter()
-            .any(|peer| peer.is_inflated())
+            .any(|peer| peer.estimator.is_inflated())
     }
 
-    pub fn peer_count(self) -> u16
-        ensures { result ≡ self.count }
+    pub fn peer_count(&self) -> u16
+        ensures { result ≡ self.now.count }
     {
         self.count
     }
 
     // The id of the peer at a place, 0 where none stands. Stays: no Option, so that a place beyond the peers shows zero, as it did.
-    pub fn id_at(self, place: usize) -> u32
-        ensures { result ≡ id_at self place }
+    pub fn id_at(&self, place: usize) -> u32
+        ensures { result ≡ id_at self.now place }
     {
         if place < known(self.count) {
-            self.ids[place]
+            self.peers[place].id
         } else {
             0
         }
     }
 
     // The estimator of the peer at a place, zero where none stands.
-    pub fn estimator_at(self, place: usize) -> RttEstimator
-        ensures { result ≡ shown_at self place }
+    pub fn estimator_at(&self, place: usize) -> RttEstimator
+        ensures { result ≡ shown_at self.now place }
     {
         if place < known(self.count) {
-            self.peers[place]
+            self.peers[place].estimator
         } else {
             RttEstimator::new(0.0)
         }

@@ -1,2 +1,2 @@
-pub mod Rows
-pub mod Shells
+pub mod Rooms
+pub mod Rosters

@@ -1,2 +1,1 @@
 pub mod Station
-pub mod Parts

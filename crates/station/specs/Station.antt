@@ -1,52 +1,72 @@
 -- The station (document 01, "Station (added)" and the two lists of numbers): what it holds, which reasons may apply to each of its
 -- calls, and what each call answers and leaves, worked out from the modules' own steps. Of a record and of the pool only the length
 -- is read; where the bytes go is said apart. Definitions only.
-use Rattle.std.specs.Prelude.{ℕ, ◌+◌, ◌*◌, min, Bool, true, false, cond, List, ◌∷◌, ◌++◌, map, ltb, leb, eqb, Float, get_or, set, replicate, take, drop, Result, Ok, Err}
+use Rattle.std.specs.Prelude.{ℕ, ◌≡◌, ◌+◌, ◌*◌, min, Bool, true, false, not, ◌||◌, cond, List, [], ◌∷◌, ◌++◌, map, ltb, leb, eqb, Float, get_or, set, slice_get, option_map, replicate, take, drop, Option, Some, None, Result, Ok, Err}
 use Rattle.config.specs.declared.alone.Left.{Left}
-use Rattle.config.specs.Config.{making_checks}
-use Rattle.config.specs.Ledger.{opened, resumed, moved, timed_checks, rate_checks}
+use Rattle.config.specs.Config.{making_checks, is_invalid, failed_check, rates_beyond, floats_beyond, queues_beyond}
+use Rattle.config.specs.Ledger.{opened, resumed, moved, time_check, timed_checks, rate_checks}
 use Rattle.config.specs.Refusal.{Check, when, verdict_of}
 use Rattle.config.specs.declared.config.CongestionConfig.{CongestionConfig}
 use Rattle.config.specs.declared.config.Priority.{Priority}
 use Rattle.config.specs.declared.ledger.Ledger.{Ledger}
 use Rattle.config.specs.declared.refusal.Refusal.{Refusal}
-use Rattle.config.specs.declared.refusal.Refusal.TheVariants.{WriterUnknown, WriterKnown, TableFull}
-use Rattle.numeric.specs.Search.{first}
-use Rattle.pacing.specs.Pool.{slots_of}
-use Rattle.pacing.specs.WriterPacer.{pacer_config_of, no_core, made, rate_set, enqueue, attempt_by, send_noted, hand_in_written, hand_in_stored, sent_bytes}
+use Rattle.config.specs.declared.refusal.Refusal.TheVariants.{SettingsInvalid, SettingsBeyond, WriterUnknown, WriterKnown, TableFull}
+use Rattle.std.specs.List.{list_any}
+use Rattle.queue.specs.Pool.{slots_of, limits_of}
+use Rattle.queue.specs.declared.entry.InstanceKey.{InstanceKey}
+use Rattle.queue.specs.declared.fate.Fate.{Fate}
+use Rattle.queue.specs.declared.fate.Kept.{Kept}
+use Rattle.queue.specs.declared.pool.Limits.{Limits}
+use Rattle.pacing.specs.WriterPacer.{Pacer, pacer_config_of, made, fits, rate_set, handed_in, sent_if, hand_in_stored, sent_bytes}
 use Rattle.pacing.specs.WriterPacerAlone as alone
-use Rattle.pacing.specs.declared.coalescing.InstanceKey.{InstanceKey}
-use Rattle.pacing.specs.declared.pool.Limits.{Limits}
-use Rattle.pacing.specs.declared.ring.Fate.{Fate}
-use Rattle.pacing.specs.declared.writer_pacer.Attempt.{Attempt}
-use Rattle.pacing.specs.declared.writer_pacer.Enqueued.{Enqueued}
 use Rattle.pacing.specs.declared.writer_pacer.PacerConfig.{PacerConfig}
-use Rattle.pacing.specs.declared.writer_pacer.PacerCore.{PacerCore}
-use Rattle.pacing.specs.declared.writer_pacer.SendAction.{SendAction}
+use Rattle.pacing.specs.declared.send_action.SendAction.{SendAction}
 use Rattle.signals.specs.RttEstimatorAlone.{sample_checks}
 use Rattle.control.specs.BudgetAllocator.{row_at, place_of, is_known}
-use Rattle.control.specs.Controller.{controller_config_of, on_eagain, on_nacks, on_ecn_tos, new_controller, registered_in, sampled, controller_ticked, controller_set, full_for_peer}
-use Rattle.control.specs.ControllerAlone.{with_core}
+use Rattle.control.specs.Controller.{controller_config_of, on_eagain, on_nacks, on_ecn_tos, new_controller, with_core, registered_in, sampled, controller_ticked, controller_set, full_for_peer}
 use Rattle.control.specs.declared.budget_allocator.WriterTable.{WriterTable}
+use Rattle.control.specs.declared.controller.ControllerCore.{ControllerCore}
 use Rattle.control.specs.declared.controller.CongestionController.{CongestionController}
-use Rattle.control.specs.declared.controller.ControllerTicked.{ControllerTicked}
-use Rattle.control.specs.declared.controller.Marked.{Marked}
-use Rattle.station.specs.declared.roster.Roster.{Roster}
-use Rattle.station.specs.declared.station.Station.{Station}
 use Rattle.station.specs.declared.station.StationConfig.{StationConfig}
-use Rattle.station.specs.declared.roster.Writer.{Writer}
 
 -- ---- what it holds
+
+-- a writer's id and its pacer
+pub record Writer : Type 0 where
+  pub id : ℕ
+  pub pacer : Pacer
+
+-- four places, of which the first `count` are taken
+pub record Roster : Type 0 where
+  pub writers : List Writer
+  pub count : ℕ
+
+pub record Station : Type 0 where
+  pub ledger : Ledger
+  pub config : StationConfig
+  pub controller : CongestionController
+  pub roster : Roster
 
 abbrev pub station_config_of : CongestionConfig → StationConfig
 station_config_of c = record { controller = controller_config_of c; pacer = pacer_config_of c }
 
-abbrev pub writer_of : ℕ → PacerCore → Writer
+abbrev pub writer_of : ℕ → Pacer → Writer
 writer_of id p = record { id = id; pacer = p }
 
--- a place that no writer has, and what the language's reading gives beyond the array
+abbrev pub one_slot_each : Limits
+one_slot_each = record { p0 = 1; p1 = 1; p2 = 1 }
+
+-- the pacer of a place that no writer has: queues of one slot, no rate
+abbrev pub no_pacer : Pacer
+no_pacer = made 0 one_slot_each 0
+
+-- a place that no writer has, and what is read beyond the last
 abbrev pub no_writer : Writer
-no_writer = writer_of 0 no_core
+no_writer = writer_of 0 no_pacer
+
+-- the same, where queues of N0, N1 and N2 slots have room for it
+abbrev pub no_writer_in : ℕ → ℕ → ℕ → Option Writer
+no_writer_in N0 N1 N2 = cond (fits N0 N1 N2 one_slot_each) (Some no_writer) None
 
 abbrev pub roster_of : List Writer → ℕ → Roster
 roster_of ws count = record { writers = ws; count = count }
@@ -54,34 +74,37 @@ roster_of ws count = record { writers = ws; count = count }
 abbrev pub new_roster : Roster
 new_roster = roster_of (replicate 4 no_writer) 0
 
+abbrev pub new_roster_in : ℕ → ℕ → ℕ → Option Roster
+new_roster_in N0 N1 N2 = cond (fits N0 N1 N2 one_slot_each) (Some new_roster) None
+
 abbrev pub writer_at : Roster → ℕ → Writer
 writer_at r i = get_or r.writers i no_writer
 
-abbrev pub pacer_in : Station → ℕ → PacerCore
+-- the pacer of a place, where there is such a place
+abbrev pub pacer_at : Roster → ℕ → Option Pacer
+pacer_at r i = option_map (λ w. w.pacer) (slice_get r.writers i)
+
+abbrev pub pacer_in : Station → ℕ → Pacer
 pacer_in s i = (writer_at s.roster i).pacer
 
 -- how many places are taken
 abbrev pub taken_of : Roster → ℕ
 taken_of r = min r.count 4
 
--- the first place with the id, or the number of places taken
-abbrev pub place_in : Roster → ℕ → ℕ
-place_in r id = first (λ (k : ℕ). eqb (writer_at r k).id id) (taken_of r)
-
 -- "16 id already in the station"
 unfoldable pub is_here : Roster → ℕ → Bool
-is_here r id = ltb (place_in r id) (taken_of r)
+is_here r id = list_any (λ w. eqb w.id id) (take (taken_of r) r.writers)
 
 -- "up to 4 writers with a pacer each, numbered from 0 as registered": the next place is the newcomer's
 unfoldable pub joined : Roster → Writer → Roster
 joined r w = roster_of (set r.writers r.count w) (r.count + 1)
 
 -- the roster with another pacer in place i
-unfoldable pub with_pacer : Roster → ℕ → PacerCore → Roster
+unfoldable pub with_pacer : Roster → ℕ → Pacer → Roster
 with_pacer r i p = roster_of (set r.writers i (writer_of (writer_at r i).id p)) r.count
 
-abbrev pub station_of : Ledger → StationConfig → CongestionController → Roster → List ℕ → Station
-station_of l c x r words = record { ledger = l; config = c; controller = x; roster = r; words = words }
+abbrev pub station_of : Ledger → StationConfig → CongestionController → Roster → Station
+station_of l c x r = record { ledger = l; config = c; controller = x; roster = r }
 
 -- ---- answers
 
@@ -100,19 +123,31 @@ left_by (Err e) s x = turned_down s e
 -- ---- making one: 1, 2 and 7
 
 abbrev pub new_station : StationConfig → ℕ → Station
-new_station c time = station_of (opened time) c (new_controller c.controller time) new_roster (replicate 7220 0)
+new_station c time = station_of (opened time) c (new_controller c.controller time) new_roster
 
 -- the station, or the reason
 unfoldable pub made_by : Result Unit Refusal → Station → Result Station Refusal
 made_by (Ok u) s = Ok s
 made_by (Err e) s = Err e
 
-unfoldable pub made_station : CongestionConfig → ℕ → Result Station Refusal
-made_station c time = made_by (verdict_of (making_checks c time)) (new_station (station_config_of c) time)
+-- 2 too, where queues of N0, N1 and N2 slots have no room for the limits of the settings
+abbrev pub room_checks : ℕ → ℕ → ℕ → CongestionConfig → ℕ → List Check
+room_checks N0 N1 N2 c time =
+    when SettingsInvalid (is_invalid (failed_check c))
+    ∷ when SettingsBeyond (rates_beyond c || (floats_beyond c || (queues_beyond c || not (fits N0 N1 N2 (limits_of c)))))
+    ∷ time_check time
+    ∷ []
+
+-- "P0 1 to 128, P1 1 to 512, P2 1 to 128": with so much room the reasons are those of the settings alone
+abbrev pub RoomForAllSettings : Type 0
+RoomForAllSettings = (c : CongestionConfig) (time : ℕ) → verdict_of (room_checks 128 512 128 c time) ≡ verdict_of (making_checks c time)
+
+unfoldable pub made_station : ℕ → ℕ → ℕ → CongestionConfig → ℕ → Result Station Refusal
+made_station N0 N1 N2 c time = made_by (verdict_of (room_checks N0 N1 N2 c time)) (new_station (station_config_of c) time)
 
 -- a call count that was kept elsewhere
 abbrev pub resumed_station : Station → ℕ → Station
-resumed_station s calls = station_of (resumed s.ledger calls) s.config s.controller s.roster s.words
+resumed_station s calls = station_of (resumed s.ledger calls) s.config s.controller s.roster
 
 -- ---- register: 7, 17, 11, 16 and 14
 
@@ -121,13 +156,13 @@ register_checks s time id =
     when WriterKnown (is_here s.roster id) ∷ when TableFull (leb 4 s.roster.count) ∷ timed_checks s.ledger time
 
 -- "A pacer starts at `min_rate_bps`, which counts as a rate setting"
-abbrev pub first_pacer : PacerConfig → ℕ → PacerCore
+abbrev pub first_pacer : PacerConfig → ℕ → Pacer
 first_pacer c time = made time c.limits c.min_rate_bps
 
 unfoldable pub register_leaves : Station → ℕ → ℕ → Priority → Station
 register_leaves s time id class =
     station_of (moved s.ledger time) s.config (registered_in s.controller id class)
-    (joined s.roster (writer_of id (first_pacer s.config.pacer time))) s.words
+    (joined s.roster (writer_of id (first_pacer s.config.pacer time)))
 
 unfoldable pub registered_station : Station → ℕ → ℕ → Priority → Left Station Unit
 registered_station s time id class =
@@ -137,7 +172,7 @@ registered_station s time id class =
 
 -- what a signal leaves: all but ledger and controller stay
 abbrev pub steered : Station → ℕ → CongestionController → Station
-steered s time x = station_of (moved s.ledger time) s.config x s.roster s.words
+steered s time x = station_of (moved s.ledger time) s.config x s.roster
 
 abbrev pub signalled : {T : Type 0} → Station → ℕ → T → CongestionController → Left Station T
 signalled s time told x = left_by (verdict_of (timed_checks s.ledger time)) s (answer_with (Ok told) (steered s time x))
@@ -151,8 +186,8 @@ nacks_station s time count =
     signalled s time tt (with_core s.controller (on_nacks s.controller.core s.config.controller count))
 
 -- told: whether congestion is signalled
-abbrev pub marked_by : Station → ℕ → Marked → Left Station Bool
-marked_by s time m = signalled s time m.signal (with_core s.controller m.core)
+abbrev pub marked_by : Station → ℕ → ControllerCore × Bool → Left Station Bool
+marked_by s time m = signalled s time m.1 (with_core s.controller m.0)
 
 unfoldable pub tos_station : Station → ℕ → ℕ → Left Station Bool
 tos_station s time tos = marked_by s time (on_ecn_tos s.controller.core s.config.controller tos)
@@ -179,15 +214,20 @@ unfoldable pub budgeted_all : PacerConfig → ℕ → WriterTable → Roster →
 budgeted_all c time t r =
     roster_of (map (budgeted c time t) (take (taken_of r) r.writers) ++ drop (taken_of r) r.writers) r.count
 
+-- the budgets of the allocator's table reach the pacers
+abbrev pub allotted_to : Station → ℕ → Station
+allotted_to s time =
+    station_of s.ledger s.config s.controller (budgeted_all s.config.pacer time s.controller.allocator.table s.roster)
+
 -- new budgets reach the pacers
 abbrev pub allotted : Station → ℕ → CongestionController → Station
 allotted s time x =
-    station_of (moved s.ledger time) s.config x (budgeted_all s.config.pacer time x.allocator.table s.roster) s.words
+    station_of (moved s.ledger time) s.config x (budgeted_all s.config.pacer time x.allocator.table s.roster)
 
 -- a rate that a tick changed is shared out at once; told: whether it did, and the updates are then the allocator's rows
-abbrev pub tick_leaves : Station → ℕ → ControllerTicked → Left Station Bool
+abbrev pub tick_leaves : Station → ℕ → CongestionController × Bool → Left Station Bool
 tick_leaves s time t =
-    cond t.changed (answer_with (Ok true) (allotted s time t.controller)) (answer_with (Ok false) (steered s time t.controller))
+    cond t.1 (answer_with (Ok true) (allotted s time t.0)) (answer_with (Ok false) (steered s time t.0))
 
 unfoldable pub ticked_station : Station → ℕ → Left Station Bool
 ticked_station s time =
@@ -213,10 +253,9 @@ slots_needed m = 4 * slots_of m
 abbrev pub pacer_check : Station → ℕ → Check
 pacer_check s i = when WriterUnknown (leb s.roster.count i)
 
--- what a call on pacer i leaves: all but the ledger, that pacer and the words stay
-abbrev pub paced : Station → ℕ → ℕ → PacerCore → List ℕ → Station
-paced s time i p words =
-    station_of (moved s.ledger time) s.config s.controller (with_pacer s.roster i p) words
+-- what a call on pacer i leaves: all but the ledger and that pacer stay
+abbrev pub paced : Station → ℕ → ℕ → Pacer → Station
+paced s time i p = station_of (moved s.ledger time) s.config s.controller (with_pacer s.roster i p)
 
 -- 3, 7, 8, 17, 11, 13 and 15, for a record of n bytes and a pool of so many; 12 is found by the step
 abbrev pub hand_in_checks : Station → ℕ → ℕ → ℕ → ℕ → List Check
@@ -226,17 +265,17 @@ hand_in_checks s bytes time i n =
 abbrev pub hand_in_verdict : Station → ℕ → ℕ → ℕ → ℕ → Result Unit Refusal
 hand_in_verdict s bytes time i n = verdict_of (hand_in_checks s bytes time i n)
 
-abbrev pub enqueued_in : Station → ℕ → Priority → InstanceKey → Enqueued
-enqueued_in s i c key = enqueue (pacer_in s i) s.words i c key
+-- a record of n bytes to pacer i
+abbrev pub enqueued_in : Station → ℕ → Priority → InstanceKey → ℕ → Pacer × Kept
+enqueued_in s i c key n = handed_in (pacer_in s i) c key n
 
 -- "12: it counts as an accepted call, moving the last time, and uses up a sequence number": told is the record's fate, a full P0 queue among them
-abbrev pub hand_in_leaves : Station → ℕ → ℕ → Priority → InstanceKey → ℕ → Enqueued → Left Station Fate
-hand_in_leaves s time i c key n x =
-    answer_with (Ok x.kept.fate) (paced s time i x.core (hand_in_written s.words i c x.kept n key))
+abbrev pub hand_in_leaves : Station → ℕ → ℕ → Pacer × Kept → Left Station Fate
+hand_in_leaves s time i x = answer_with (Ok x.1.fate) (paced s time i x.0)
 
 unfoldable pub handed_station : Station → ℕ → ℕ → ℕ → Priority → InstanceKey → ℕ → Left Station Fate
 handed_station s bytes time i c key n =
-    left_by (hand_in_verdict s bytes time i n) s (hand_in_leaves s time i c key n (enqueued_in s i c key))
+    left_by (hand_in_verdict s bytes time i n) s (hand_in_leaves s time i (enqueued_in s i c key n))
 
 -- a pool after a call that would leave it so
 unfoldable pub pool_by : Result Unit Refusal → List ℕ → List ℕ → List ℕ
@@ -246,7 +285,7 @@ pool_by (Err e) after pool = pool
 -- the record's bytes go to its slot in a pool
 unfoldable pub pool_handed : Station → ℕ → ℕ → ℕ → Priority → InstanceKey → List ℕ → ℕ → List ℕ → List ℕ
 pool_handed s bytes time i c key sample n pool =
-    pool_by (hand_in_verdict s bytes time i n) (hand_in_stored pool (limits_in s) i c (enqueued_in s i c key).kept sample) pool
+    pool_by (hand_in_verdict s bytes time i n) (hand_in_stored pool (limits_in s) i c (enqueued_in s i c key n).1 sample) pool
 
 -- 7, 8, 17, 11 and 15
 abbrev pub send_checks : Station → ℕ → ℕ → ℕ → List Check
@@ -256,11 +295,11 @@ abbrev pub send_verdict : Station → ℕ → ℕ → ℕ → Result Unit Refusa
 send_verdict s bytes time i = verdict_of (send_checks s bytes time i)
 
 -- with control off the Rust's empty
-abbrev pub attempt_in : Station → ℕ → ℕ → Attempt
-attempt_in s time i = attempt_by s.config.pacer.enabled (pacer_in s i) s.words i time
+abbrev pub attempt_in : Station → ℕ → ℕ → Pacer × SendAction
+attempt_in s time i = sent_if s.config.pacer.enabled (pacer_in s i) time
 
-abbrev pub send_leaves : Station → ℕ → ℕ → Attempt → Left Station SendAction
-send_leaves s time i x = answer_with (Ok x.action) (paced s time i x.core (send_noted s.words i x.action))
+abbrev pub send_leaves : Station → ℕ → ℕ → Pacer × SendAction → Left Station SendAction
+send_leaves s time i x = answer_with (Ok x.1) (paced s time i x.0)
 
 unfoldable pub sent_station : Station → ℕ → ℕ → ℕ → Left Station SendAction
 sent_station s bytes time i = left_by (send_verdict s bytes time i) s (send_leaves s time i (attempt_in s time i))

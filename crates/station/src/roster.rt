@@ -1,25 +1,48 @@
 // The writers of a station, with a pacer each.
-ghost use Rattle.std.specs.Prelude.{◌≡◌, cond, min, ltb};
-ghost use Rattle.station.specs.Station.{writer_of, writer_at, new_roster, place_in, is_here, joined, with_pacer, budgeted, budgeted_all};
+ghost use Rattle.std.specs.Prelude.{◌≡◌, ◌<◌, ◌≤◌, true, min, eqb, option_copied};
+ghost use Rattle.pacing.specs.WriterPacer.{fits, made, handed_in, sent_if, metrics_in};
+ghost use Rattle.station.specs.Station.{one_slot_each, no_pacer, no_writer_in, new_roster_in, roster_of, writer_of, writer_at, pacer_at, is_here, joined, with_pacer, budgeted, budgeted_all};
+ghost use Rattle.station.specs.Station as station;
 
+use config::config::{CongestionConfig, Priority};
 use control::budget_allocator::WriterTable;
-use pacing::writer_pacer::{PacerConfig, PacerCore};
+use pacing::pacer_counts::WriterPacerMetrics;
+use pacing::send_action::SendAction;
+use pacing::writer_pacer::{PacerConfig, WriterPacer};
+use queue::entry::InstanceKey;
+use queue::fate::Kept;
+use queue::pool::Limits;
+use std::marker::Model;
 
 // Writers in a station.
 pub const MOST_WRITERS: usize = 4;
 
 // A registered writer and its pacer.
-#[derive(Clone, Copy)]
-pub struct Writer {
-    pub(crate) id: u64,
-    pub(crate) pacer: PacerCore,
+#[derive(Drop)]
+pub struct Writer<const P0: usize, const P1: usize, const P2: usize> {
+    id: u64,
+    pacer: WriterPacer<P0, P1, P2>,
+}
+
+impl<const P0: usize, const P1: usize, const P2: usize> Model for Writer<P0, P1, P2> {
+    ghost Value = { station.Writer };
+
+    ghost view = { λ w. writer_of w.id w.pacer };
 }
 
 // The writers, numbered from 0 as registered.
-#[derive(Clone, Copy)]
-pub struct Roster {
-    pub(crate) writers: [Writer; MOST_WRITERS],
-    pub(crate) count: u8,
+#[derive(Drop)]
+pub struct Roster<const P0: usize, const P1: usize, const P2: usize> {
+    writers: [Writer<P0, P1, P2>; MOST_WRITERS],
+    count: u8,
+}
+
+impl<const P0: usize, const P1: usize, const P2: usize> Model for Roster<P0, P1, P2> {
+    ghost Value = { station.Roster };
+
+    ghost view = { λ r. roster_of r.writers r.count };
+
+    ghost invariant = { λ r. r.count ≤ 4 };
 }
 
 // How many places a count takes.
@@ -29,92 +52,171 @@ fn taken(count: u8) -> usize
     MOST_WRITERS.min(count as usize)
 }
 
-impl Writer {
-    // A new budget reaches the pacer.
-    fn budget(mut self, config: PacerConfig, time: u64, table: WriterTable) -> Writer
-        ensures { result ≡ budgeted config time table self }
-    {
-        if let Some(bps) = table.budget_of(self.id) {
-            self.pacer = self.pacer.set_rate(config, time, bps);
-        }
-        self
+// Queues of one slot.
+fn one_slot_each() -> Limits
+    ensures { result ≡ one_slot_each }
+{
+    Limits::of(CongestionConfig {
+        max_queue_p0: 1,
+        max_queue_p1: 1,
+        max_queue_p2: 1,
+        ..CongestionConfig::new()
+    })
+}
+
+// The metrics of a pacer that nothing was handed to.
+fn no_metrics() -> WriterPacerMetrics
+    ensures { result ≡ metrics_in no_pacer }
+{
+    WriterPacerMetrics {
+        enqueued_p0: 0,
+        enqueued_p1: 0,
+        enqueued_p2: 0,
+        sent_p0: 0,
+        sent_p1: 0,
+        sent_p2: 0,
+        dropped_p1: 0,
+        coalesced_p2: 0,
+        dropped_p2: 0,
+        bytes_sent: 0,
+        rate_limited: 0,
+        force_sends_p0: 0,
     }
 }
 
-impl Roster {
-    pub fn new() -> Roster
-        ensures { result ≡ new_roster }
+impl<const P0: usize, const P1: usize, const P2: usize> Writer<P0, P1, P2> {
+    // What stands in a place that no writer has, where there is room for a slot of each class.
+    fn nobody() -> Option<Self>
+        ensures { result ≡ no_writer_in P0 P1 P2 }
     {
-        let nobody = Writer {
+        Some(Writer {
             id: 0,
-            pacer: PacerCore::zero(),
-        };
-        Roster {
-            writers: [nobody; MOST_WRITERS],
-            count: 0,
+            pacer: WriterPacer::new(0, one_slot_each(), 0)?,
+        })
+    }
+
+    // A newcomer takes the place, with a new pacer.
+    fn begin(&mut self, id: u64, time: u64, limits: Limits, rate_bps: u32)
+        requires { fits P0 P1 P2 limits ≡ true }
+        ensures { self.new ≡ writer_of id (made time limits rate_bps) }
+    {
+        self.id = id;
+        self.pacer.restart(time, limits, rate_bps);
+    }
+
+    // A new budget reaches the pacer.
+    fn budget(&mut self, config: PacerConfig, time: u64, table: &WriterTable)
+        ensures { self.new ≡ budgeted config time table.now self.old }
+    {
+        if let Some(bps) = table.budget_of(self.id) {
+            self.pacer.set_rate(config, time, bps);
         }
+    }
+}
+
+impl<const P0: usize, const P1: usize, const P2: usize> Roster<P0, P1, P2> {
+    // A roster that no writer has joined, where there is room for a slot of each class.
+    pub(crate) fn new() -> Option<Self>
+        ensures { result ≡ new_roster_in P0 P1 P2 }
+    {
+        Some(Roster {
+            writers: [
+                Writer::nobody()?,
+                Writer::nobody()?,
+                Writer::nobody()?,
+                Writer::nobody()?,
+            ],
+            count: 0,
+        })
     }
 
     // Whether a writer has the id.
-    pub(crate) fn is_here(self, id: u64) -> bool
-        ensures { result ≡ is_here self id }
+    pub(crate) fn is_here(&self, id: u64) -> bool
+        ensures { result ≡ is_here self.now id }
     {
         let writers = &self.writers[..taken(self.count)];
-        writers.iter().any(|writer| writer.id == id)
+        writers.iter().any(
+            |writer| -> bool
+                ensures { result ≡ eqb writer.now.id id }
+            { writer.id == id },
+        )
     }
 
-    // The next place is the newcomer's; a full roster stays.
-    pub(crate) fn join(mut self, id: u64, pacer: PacerCore) -> Roster
-        ensures { result ≡ cond (ltb self.count 4) (joined self (writer_of id pacer)) self }
+    // The next place is the newcomer's, with a new pacer.
+    pub(crate) fn join(&mut self, id: u64, time: u64, limits: Limits, rate_bps: u32)
+        requires place { self.old.count < 4 }
+        requires room { fits P0 P1 P2 limits ≡ true }
+        ensures { self.new ≡ joined self.old (writer_of id (made time limits rate_bps)) }
     {
-        if self.count < 4 {
-            self.writers[self.count as usize] = Writer { id, pacer };
-            self.count += 1;
-        }
-        self
+        self.writers[self.count as usize].begin(id, time, limits, rate_bps);
+        self.count += 1;
     }
 
-    // The pacer with a number, blank where there is no such place.
-    pub fn pacer(self, i: u8) -> PacerCore
-        ensures { result ≡ (writer_at self i).pacer }
+    // A record of `length` bytes to pacer i; the key is P2's. Where it is kept.
+    pub(crate) fn hand_in(&mut self, i: u8, class: Priority, key: InstanceKey, length: u64) -> Kept
+        requires { i < 4 }
+        ensures after { self.new ≡ with_pacer self.old i (handed_in (writer_at self.old i).pacer class key length).0 }
+        ensures kept { result ≡ (handed_in (writer_at self.old i).pacer class key length).1 }
+    {
+        let writer = &mut self.writers[i as usize];
+        writer.pacer.hand_in(class, key, length)
+    }
+
+    // What pacer i sends next; with control off nothing.
+    pub(crate) fn send_if(&mut self, enabled: bool, time: u64, i: u8) -> SendAction
+        requires { i < 4 }
+        ensures after { self.new ≡ with_pacer self.old i (sent_if enabled (writer_at self.old i).pacer time).0 }
+        ensures action { result ≡ (sent_if enabled (writer_at self.old i).pacer time).1 }
+    {
+        let writer = &mut self.writers[i as usize];
+        writer.pacer.send_if(enabled, time)
+    }
+
+    // New budgets reach the pacers.
+    pub(crate) fn budget_all(&mut self, config: PacerConfig, time: u64, table: &WriterTable)
+        ensures { self.new ≡ budgeted_all config time table.now self.old }
+    {
+        for k in 0..taken(self.count) {
+            self.writers[k].budget(config, time, table);
+        }
+    }
+
+    // The pacer with a number, where there is such a place; one that no writer has yet has queues of one slot and no rate.
+    pub fn pacer(&self, i: u8) -> Option<&WriterPacer<P0, P1, P2>>
+        ensures { option_copied result ≡ pacer_at self.now i }
     {
         match self.writers.get(i as usize) {
-            Some(writer) => writer.pacer,
-            None => PacerCore::zero(),
+            Some(writer) => Some(&writer.pacer),
+            None => None,
         }
     }
 
     // The id of the writer with a number, 0 where there is no such place.
-    pub fn id(self, i: u8) -> u64
-        ensures { result ≡ (writer_at self i).id }
+    pub fn id(&self, i: u8) -> u64
+        ensures { result ≡ (writer_at self.now i).id }
     {
-        self.writers.get(i as usize).map_or(0, |writer| writer.id)
-    }
-
-    // Another pacer in a place.
-    pub fn with_pacer(mut self, i: u8, pacer: PacerCore) -> Roster
-        ensures { result ≡ with_pacer self i pacer }
-    {
-        if i < 4 {
-            self.writers[i as usize].pacer = pacer;
+        match self.writers.get(i as usize) {
+            Some(writer) => writer.id,
+            None => 0,
         }
-        self
     }
 
-    // New budgets reach the pacers.
-    // Stays: an index. What is written through `iter_mut` of a part of the array is not seen in the roster, and no proof closes.
-    pub(crate) fn budget_all(mut self, config: PacerConfig, time: u64, table: WriterTable) -> Roster
-        ensures { result ≡ budgeted_all config time table self }
+    // The Rust's metrics of the pacer with a number; where there is no such place all are 0.
+    pub fn metrics(&self, i: u8) -> WriterPacerMetrics
+        ensures { result ≡ metrics_in (writer_at self.now i).pacer }
     {
-        for k in 0..taken(self.count) {
-            self.writers[k] = self.writers[k].budget(config, time, table);
+        match self.writers.get(i as usize) {
+            Some(writer) => writer.pacer.metrics(),
+            None => no_metrics(),
         }
-        self
     }
 
-    pub fn count(self) -> u8
-        ensures { result ≡ self.count }
+    // How many writers have joined.
+    pub fn count(&self) -> u8
+        ensures value { result ≡ self.now.count }
+        ensures upper_bound { result ≤ 4 }
     {
+        let _writers = &self.writers;
         self.count
     }
 }

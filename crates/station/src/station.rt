@@ -1,40 +1,33 @@
-// A station: one controller and up to four writers with a pacer each. Each public call is a thin shell over the
-// call on the parts that it touches (parts.rt). What each does is defined in specs/Station.antt.
-ghost use Rattle.std.specs.Prelude.{◌≡◌, length};
+// A station: one controller and up to four writers with a pacer each, called in place. A call that is turned down leaves all as it was.
+// What each call does is defined in specs/Station.antt; by_value.rt has the calls by value.
+ghost use Rattle.std.specs.Prelude.{◌≡◌, ◌<◌, OnOk, true, length};
 ghost use Rattle.config.specs.Refusal.{verdict_of};
-ghost use Rattle.pacing.specs.WriterPacer.{handed_by, words_handed_by, pool_handed_by, sent_by, words_sent_by, metrics_in, sent_bytes};
-ghost use Rattle.station.specs.Station.{station_config_of, new_station, made_station, resumed_station, registered_station, eagain_station, nacks_station, tos_station, rtt_station, ticked_station, rated_station, handed_station, pool_handed, sent_station};
-ghost use Rattle.station.specs.Parts.{hand_in_checks_on, send_checks_on, core_left_by, shared_by};
+ghost use Rattle.pacing.specs.WriterPacer.{fits, metrics_in};
+ghost use Rattle.pacing.specs.WriterPacer as pacer;
+ghost use Rattle.queue.specs.Pool.{limits_of};
+ghost use Rattle.station.specs.Station.{station_config_of, station_of, room_checks, made_station, register_checks, registered_station, eagain_station, nacks_station, tos_station, rtt_checks, rtt_station, ticked_station, rated_station, allotted_to, slots_needed, hand_in_checks, handed_station, pool_handed, send_checks, sent_station, pacer_in};
+ghost use Rattle.station.specs.Station as station;
 
-use crate::parts;
-use crate::parts::{CoreLeft, STATION_WORDS};
 use crate::roster::Roster;
-use config::alone::Left;
 use config::config::{CongestionConfig, Priority};
-use config::ledger::Ledger;
+use config::ledger::{Ledger, check_time};
 use config::refusal::Refusal;
 use control::controller::{CongestionController, ControllerConfig};
-use pacing::coalescing::InstanceKey;
-use pacing::ring::Fate;
-use pacing::writer_pacer;
-use pacing::writer_pacer::{
-    Handed, PacerConfig, PacerCore, SendAction, SendTried, WriterPacerMetrics,
-};
+use pacing::pacer_counts::WriterPacerMetrics;
+use pacing::send_action::SendAction;
+use pacing::writer_pacer::{PacerConfig, WriterPacer};
+use pacing::{send_action, writer_pacer_alone};
+use queue::entry::InstanceKey;
+use queue::fate::Fate;
+use queue::pool::Limits;
+use signals::rtt_estimator::check_sample;
+use std::marker::Model;
 
 // What the settings say to the controller and to the pacers: held once, and read by every step.
 #[derive(Clone, Copy)]
 pub struct StationConfig {
     pub(crate) controller: ControllerConfig,
     pub(crate) pacer: PacerConfig,
-}
-
-#[derive(Clone, Copy)]
-pub struct Station {
-    pub(crate) ledger: Ledger,
-    pub(crate) config: StationConfig,
-    pub(crate) controller: CongestionController,
-    pub(crate) roster: Roster,
-    pub(crate) words: [u64; STATION_WORDS],
 }
 
 impl StationConfig {
@@ -60,331 +53,256 @@ impl StationConfig {
     }
 }
 
-// A station with no writer yet.
-fn made(config: StationConfig, time: u64) -> Station
-    ensures { result ≡ new_station config time }
+// The slots that a station's pool must have: four writers'.
+fn slots_needed(limits: Limits) -> usize
+    ensures { result ≡ slots_needed limits }
 {
-    Station {
-        ledger: Ledger::new(time),
-        config,
-        controller: CongestionController::new(config.controller, time),
-        roster: Roster::new(),
-        words: [0; STATION_WORDS],
-    }
+    4 * limits.slots()
 }
 
-// A hand-in on a station's own words.
-fn hand_in_words(
-    ledger: Ledger,
-    config: PacerConfig,
-    count: u8,
-    core: PacerCore,
-    words: &mut [u64; STATION_WORDS],
-    pool: &mut [u8],
-    time: u64,
-    i: u8,
-    class: Priority,
-    key: InstanceKey,
-    sample: &[u8],
-) -> Handed
-    ensures value { result ≡ handed_by (verdict_of (hand_in_checks_on ledger config count (length pool.old) time i (length sample.now))) ledger core words.old time i class key }
-    ensures words_after { words.new ≡ words_handed_by (verdict_of (hand_in_checks_on ledger config count (length pool.old) time i (length sample.now))) core words.old i class key (length sample.now) }
-    ensures pool_after { pool.new ≡ pool_handed_by (verdict_of (hand_in_checks_on ledger config count (length pool.old) time i (length sample.now))) core words.old config.limits i class key sample.now pool.old }
-{
-    parts::hand_in(
-        ledger, config, count, core, words, pool, time, i, class, key, sample,
-    )
+// The queues of its pacers have room for P0, P1 and P2 records.
+#[derive(Drop)]
+pub struct Station<const P0: usize, const P1: usize, const P2: usize> {
+    pub(crate) ledger: Ledger,
+    config: StationConfig,
+    // Rate, score, peers and the writers' rows.
+    pub controller: CongestionController,
+    // The writers and their pacers.
+    pub roster: Roster<P0, P1, P2>,
 }
 
-// A send attempt on a station's own words.
-fn send_words(
-    ledger: Ledger,
-    config: PacerConfig,
-    count: u8,
-    core: PacerCore,
-    words: &mut [u64; STATION_WORDS],
-    pool_length: usize,
-    time: u64,
-    i: u8,
-) -> SendTried
-    ensures value { result ≡ sent_by (verdict_of (send_checks_on ledger config count pool_length time i)) config.enabled ledger core words.old time i }
-    ensures words_after { words.new ≡ words_sent_by (verdict_of (send_checks_on ledger config count pool_length time i)) config.enabled core words.old time i }
-{
-    parts::send(ledger, config, count, core, words, pool_length, time, i)
+impl<const P0: usize, const P1: usize, const P2: usize> Model for Station<P0, P1, P2> {
+    ghost Value = { station.Station };
+
+    ghost view = { λ s. station_of s.ledger s.config s.controller s.roster };
+
+    ghost invariant = { λ s. fits P0 P1 P2 s.config.pacer.limits ≡ true };
 }
 
-impl Station {
-    // Turned down by 1, 2 or 7, or a station whose first last time is the time given.
-    #[tactic(auto, unfolding(crate::specs::Station::made_station, crate::specs::Station::made_by))]
-    pub fn new(config: CongestionConfig, time: u64) -> Result<Station, Refusal>
-        ensures { result ≡ made_station config time }
+impl<const P0: usize, const P1: usize, const P2: usize> Station<P0, P1, P2> {
+    // 1, 2 and 7; 2 too where the queues have no room for the limits of the settings.
+    fn check_making(config: CongestionConfig, time: u64) -> Result<(), Refusal>
+        ensures verdict { result ≡ verdict_of (room_checks P0 P1 P2 config time) }
+        ensures room { OnOk result (fits P0 P1 P2 (limits_of config) ≡ true) }
     {
-        config.check_making(time)?;
-        Ok(made(StationConfig::of(config), time))
+        config.check()?;
+        let has_room = WriterPacer::<P0, P1, P2>::fits(Limits::of(config));
+        Refusal::SettingsBeyond.when(!has_room)?;
+        check_time(time)
     }
 
-    // The same station with a call count that was kept elsewhere, as over a restart.
-    pub fn resumed(mut self, calls: u64) -> Station
-        ensures { result ≡ resumed_station self calls }
+    // A station that no writer has joined, or 1, 2 or 7; its first last time is the time given.
+    pub fn new(config: CongestionConfig, time: u64) -> Result<Self, Refusal>
+        ensures { result ≡ made_station P0 P1 P2 config time }
     {
-        self.ledger = self.ledger.resumed(calls);
-        self
-    }
-
-    // A writer of a class; its pacer has the next number, from 0.
-    #[tactic(auto, using(crate::proofs::Shells::register_parts))]
-    pub fn register(mut self, time: u64, id: u64, class: Priority) -> Left<Station, ()>
-        ensures { result ≡ registered_station self time id class }
-    {
-        let controller = self.controller;
-        let left = parts::register(
-            self.ledger,
-            self.config.pacer,
-            controller.allocator(),
-            self.roster,
-            time,
-            id,
-            class,
-        );
-        self.ledger = left.ledger;
-        self.controller = CongestionController::of(
-            controller.core(),
-            controller.tracker(),
-            left.allocator,
-        );
-        self.roster = left.roster;
-        Left {
-            state: self,
-            answer: left.answer,
+        Self::check_making(config, time)?;
+        let settings = StationConfig::of(config);
+        match Roster::new() {
+            Some(roster) => Ok(Station {
+                ledger: Ledger::new(time),
+                config: settings,
+                controller: CongestionController::new(settings.controller, time),
+                roster,
+            }),
+            // Never: where there is room for the limits there is room for a slot.
+            None => Err(Refusal::SettingsBeyond),
         }
     }
 
-    // What a call on the core leaves, where no rate is shared out.
-    fn left_by<T: Drop>(mut self, left: CoreLeft<T>) -> Left<Station, T>
-        ensures { result ≡ core_left_by self left }
+    // 7, 17, 11, 16 and 14.
+    fn check_register(&self, time: u64, id: u64) -> Result<(), Refusal>
+        ensures verdict { result ≡ verdict_of (register_checks self.now time id) }
+        ensures place { OnOk result (self.now.roster.count < 4) }
     {
-        let controller = self.controller;
-        self.ledger = left.ledger;
-        self.controller = CongestionController::of(
-            left.core,
-            controller.tracker(),
-            controller.allocator(),
-        );
-        Left {
-            state: self,
-            answer: left.answer,
+        self.ledger.check_timed(time)?;
+        Refusal::WriterKnown.when(self.roster.is_here(id))?;
+        Refusal::TableFull.when(4 <= self.roster.count())
+    }
+
+    // A writer of a class, whose pacer has the next number, from 0, and starts at the settings' least rate.
+    pub fn register(&mut self, time: u64, id: u64, class: Priority) -> Result<(), Refusal>
+        ensures { registered_station self.old time id class ≡ record { state = self.new; answer = result } }
+    {
+        self.check_register(time, id)?;
+        let settings = self.config.pacer;
+        self.roster
+            .join(id, time, settings.limits(), settings.min_rate_bps());
+        self.controller.register_writer(id, class);
+        self.ledger = self.ledger.moved(time);
+        Ok(())
+    }
+
+    pub fn on_eagain(&mut self, time: u64) -> Result<(), Refusal>
+        ensures { eagain_station self.old time ≡ record { state = self.new; answer = result } }
+    {
+        self.ledger.check_timed(time)?;
+        self.controller.on_eagain(self.config.controller);
+        self.ledger = self.ledger.moved(time);
+        Ok(())
+    }
+
+    pub fn on_nacks(&mut self, time: u64, count: u32) -> Result<(), Refusal>
+        ensures { nacks_station self.old time count ≡ record { state = self.new; answer = result } }
+    {
+        self.ledger.check_timed(time)?;
+        self.controller.on_nacks(self.config.controller, count);
+        self.ledger = self.ledger.moved(time);
+        Ok(())
+    }
+
+    // Whether congestion is signalled.
+    pub fn on_ecn_tos(&mut self, time: u64, tos: u8) -> Result<bool, Refusal>
+        ensures { tos_station self.old time tos ≡ record { state = self.new; answer = result } }
+    {
+        self.ledger.check_timed(time)?;
+        let signal = self.controller.on_ecn_tos(self.config.controller, tos);
+        self.ledger = self.ledger.moved(time);
+        Ok(signal)
+    }
+
+    // 4, 7, 17, 11 and 14; with control off no peer is entered, and 14 is not looked at.
+    fn check_rtt(&self, time: u64, peer_id: u32, rtt_ms: f32) -> Result<(), Refusal>
+        ensures { result ≡ verdict_of (rtt_checks self.now time peer_id rtt_ms) }
+    {
+        check_sample(self.ledger, time, rtt_ms)?;
+        let is_full = self
+            .controller
+            .is_full_for_peer(self.config.controller, peer_id);
+        Refusal::TableFull.when(is_full)
+    }
+
+    // A peer's round-trip time in milliseconds.
+    pub fn on_rtt_sample(&mut self, time: u64, peer_id: u32, rtt_ms: f32) -> Result<(), Refusal>
+        ensures { rtt_station self.old time peer_id rtt_ms ≡ record { state = self.new; answer = result } }
+    {
+        self.check_rtt(time, peer_id, rtt_ms)?;
+        self.controller
+            .on_rtt_sample(self.config.controller, time, peer_id, rtt_ms);
+        self.ledger = self.ledger.moved(time);
+        Ok(())
+    }
+
+    // The budgets in the allocator's table reach the pacers.
+    fn allot(&mut self, time: u64)
+        ensures { self.new ≡ allotted_to self.old time }
+    {
+        let settings = self.config.pacer;
+        self.roster
+            .budget_all(settings, time, self.controller.table());
+    }
+
+    // Whether the rate changed; it is then shared out, and the updates are the allocator's rows.
+    pub fn tick(&mut self, time: u64) -> Result<bool, Refusal>
+        ensures { ticked_station self.old time ≡ record { state = self.new; answer = result } }
+    {
+        self.ledger.check_timed(time)?;
+        let changed = self.controller.tick(self.config.controller, time);
+        if changed {
+            self.allot(time);
         }
+        self.ledger = self.ledger.moved(time);
+        Ok(changed)
     }
 
-    #[tactic(auto, using(crate::proofs::Shells::eagain_parts))]
-    pub fn on_eagain(self, time: u64) -> Left<Station, ()>
-        ensures { result ≡ eagain_station self time }
+    // A rate in bytes per second is shared out whether it changed or not: the updates are the allocator's rows.
+    pub fn set_rate(&mut self, time: u64, rate_bps: u32) -> Result<(), Refusal>
+        ensures { rated_station self.old time rate_bps ≡ record { state = self.new; answer = result } }
     {
-        let core = self.controller.core();
-        self.left_by(parts::on_eagain(self.ledger, self.config.controller, core, time))
+        self.ledger.check_rate(time, rate_bps)?;
+        self.controller
+            .set_rate(self.config.controller, time, rate_bps);
+        self.allot(time);
+        self.ledger = self.ledger.moved(time);
+        Ok(())
     }
 
-    #[tactic(auto, using(crate::proofs::Shells::nacks_parts))]
-    pub fn on_nacks(self, time: u64, count: u32) -> Left<Station, ()>
-        ensures { result ≡ nacks_station self time count }
-    {
-        let core = self.controller.core();
-        self.left_by(parts::on_nacks(self.ledger, self.config.controller, core, time, count))
-    }
-
-    // Told: whether congestion is signalled.
-    #[tactic(auto, using(crate::proofs::Shells::tos_parts))]
-    pub fn on_ecn_tos(self, time: u64, tos: u8) -> Left<Station, bool>
-        ensures { result ≡ tos_station self time tos }
-    {
-        let core = self.controller.core();
-        self.left_by(parts::on_ecn_tos(self.ledger, self.config.controller, core, time, tos))
-    }
-
-    #[tactic(auto, using(crate::proofs::Shells::rtt_parts))]
-    pub fn on_rtt_sample(mut self, time: u64, peer_id: u32, rtt_ms: f32) -> Left<Station, ()>
-        ensures { result ≡ rtt_station self time peer_id rtt_ms }
-    {
-        let controller = self.controller;
-        let left = parts::on_rtt_sample(
-            self.ledger,
-            self.config.controller,
-            controller.tracker(),
-            time,
-            peer_id,
-            rtt_ms,
-        );
-        self.ledger = left.ledger;
-        self.controller = CongestionController::of(
-            controller.core(),
-            left.tracker,
-            controller.allocator(),
-        );
-        Left {
-            state: self,
-            answer: left.answer,
-        }
-    }
-
-    // What a call on the core leaves, and a rate that it gives to be shared out.
-    fn shared_by<T: Drop>(
-        mut self,
-        left: CoreLeft<T>,
-        shared: bool,
+    // 3, 7, 8, 17, 11, 13 and 15, for a record of `length` bytes.
+    fn check_hand_in(
+        &self,
+        pool_length: usize,
         time: u64,
-        rate_bps: u32,
-    ) -> Left<Station, T>
-        ensures { result ≡ shared_by self left shared time rate_bps }
+        i: u8,
+        length: usize,
+    ) -> Result<(), Refusal>
+        ensures verdict { result ≡ verdict_of (hand_in_checks self.now pool_length time i length) }
+        ensures place { OnOk result (i < 4) }
     {
-        if shared {
-            let controller = self.controller;
-            let after = parts::share_out(
-                self.config,
-                controller.allocator(),
-                self.roster,
-                time,
-                rate_bps,
-            );
-            self.controller = CongestionController::of(
-                controller.core(),
-                controller.tracker(),
-                after.allocator,
-            );
-            self.roster = after.roster;
-        }
-        self.left_by(left)
-    }
-
-    // Told: whether the rate changed; the updates are then the allocator's rows.
-    #[tactic(auto, using(crate::proofs::Shells::tick_shell))]
-    pub fn tick(self, time: u64) -> Left<Station, bool>
-        ensures { result ≡ ticked_station self time }
-    {
-        let controller = self.controller;
-        let tracker = controller.tracker();
-        let left = parts::tick(
+        let settings = self.config.pacer;
+        let slots = slots_needed(settings.limits());
+        writer_pacer_alone::check_hand_in(
             self.ledger,
-            self.config.controller,
-            controller.core(),
-            tracker.any_inflated(),
+            settings.enabled(),
+            slots,
+            pool_length,
             time,
-        );
-        let changed = left.answer.unwrap_or(false);
-        self.shared_by(left, changed, time, left.core.rate())
+            length,
+        )?;
+        Refusal::WriterUnknown.when(self.roster.count() <= i)
     }
 
-    // Where it is accepted, the updates are the allocator's rows.
-    #[tactic(auto, using(crate::proofs::Shells::rated_parts))]
-    pub fn set_rate(self, time: u64, rate_bps: u32) -> Left<Station, ()>
-        ensures { result ≡ rated_station self time rate_bps }
-    {
-        let core = self.controller.core();
-        let left = parts::set_rate(self.ledger, self.config.controller, core, time, rate_bps);
-        self.shared_by(left, left.answer.is_ok(), time, rate_bps)
-    }
-
-    // A record to pacer i; the key is P2's. The lent pool is owed as the last call left it. Told: what became of the record, `Full` among it.
+    // A record to pacer i; the key is P2's. The lent pool is owed as the last call left it. What became of the record, `Full` among it.
     pub fn hand_in(
-        mut self,
+        &mut self,
         pool: &mut [u8],
         time: u64,
         i: u8,
         class: Priority,
         key: InstanceKey,
         sample: &[u8],
-    ) -> Left<Station, Fate>
-        ensures value { result ≡ handed_station self (length pool.old) time i class key (length sample.now) }
-        ensures pool_after { pool.new ≡ pool_handed self (length pool.old) time i class key sample.now (length sample.now) pool.old }
+    ) -> Result<Fate, Refusal>
+        ensures value { handed_station self.old (length pool.old) time i class key (length sample.now) ≡ record { state = self.new; answer = result } }
+        ensures pool_after { pool.new ≡ pool_handed self.old (length pool.old) time i class key sample.now (length sample.now) pool.old }
     {
-        let roster = self.roster;
-        let handed = hand_in_words(
-            self.ledger,
-            self.config.pacer,
-            roster.count,
-            roster.pacer(i),
-            &mut self.words,
-            pool,
-            time,
-            i,
-            class,
-            key,
-            sample,
-        );
-        self.ledger = handed.ledger;
-        self.roster = roster.with_pacer(i, handed.core);
-        Left {
-            state: self,
-            answer: handed.answer,
-        }
+        self.check_hand_in(pool.len(), time, i, sample.len())?;
+        let kept = self.roster.hand_in(i, class, key, sample.len() as u64);
+        send_action::store(pool, self.config.pacer.limits(), i, class, kept, sample);
+        self.ledger = self.ledger.moved(time);
+        Ok(kept.fate)
+    }
+
+    // 7, 8, 17, 11 and 15.
+    fn check_send(&self, pool_length: usize, time: u64, i: u8) -> Result<(), Refusal>
+        ensures verdict { result ≡ verdict_of (send_checks self.now pool_length time i) }
+        ensures place { OnOk result (i < 4) }
+    {
+        let slots = slots_needed(self.config.pacer.limits());
+        writer_pacer_alone::check_send(self.ledger, slots, pool_length, time)?;
+        Refusal::WriterUnknown.when(self.roster.count() <= i)
     }
 
     // What pacer i sends next; `sent_bytes` shows the bytes of a sent record.
-    pub fn send(mut self, pool: &[u8], time: u64, i: u8) -> Left<Station, SendAction>
-        ensures { result ≡ sent_station self (length pool.now) time i }
+    pub fn send(&mut self, pool: &[u8], time: u64, i: u8) -> Result<SendAction, Refusal>
+        ensures { sent_station self.old (length pool.now) time i ≡ record { state = self.new; answer = result } }
     {
-        let roster = self.roster;
-        let tried = send_words(
-            self.ledger,
-            self.config.pacer,
-            roster.count,
-            roster.pacer(i),
-            &mut self.words,
-            pool.len(),
-            time,
-            i,
-        );
-        self.ledger = tried.ledger;
-        self.roster = roster.with_pacer(i, tried.core);
-        Left {
-            state: self,
-            answer: tried.answer,
-        }
+        self.check_send(pool.len(), time, i)?;
+        let action = self.roster.send_if(self.config.pacer.enabled(), time, i);
+        self.ledger = self.ledger.moved(time);
+        Ok(action)
     }
 
-    pub fn ledger(self) -> Ledger
-        ensures { result ≡ self.ledger }
+    pub fn ledger(&self) -> Ledger
+        ensures { result ≡ self.now.ledger }
     {
         self.ledger
     }
 
-    pub fn config(self) -> StationConfig
-        ensures { result ≡ self.config }
+    pub fn config(&self) -> StationConfig
+        ensures { result ≡ self.now.config }
     {
         self.config
     }
 
-    // Rate, score, peers and the writers' rows.
-    pub fn controller(self) -> CongestionController
-        ensures { result ≡ self.controller }
+    // The Rust's metrics of pacer i; where there is no such place all are 0.
+    pub fn metrics(&self, i: u8) -> WriterPacerMetrics
+        ensures { result ≡ metrics_in (pacer_in self.now i) }
     {
-        self.controller
-    }
-
-    // The writers and their pacers' cores.
-    pub fn roster(self) -> Roster
-        ensures { result ≡ self.roster }
-    {
-        self.roster
-    }
-
-    // Entries and counts of the four pacers, for `entries::look_at` and `total_bytes_p2`.
-    pub fn words(self) -> [u64; STATION_WORDS]
-        ensures { result ≡ self.words }
-    {
-        self.words
-    }
-
-    // The Rust's metrics of pacer i.
-    pub fn metrics(self, i: u8) -> WriterPacerMetrics
-        ensures { result ≡ metrics_in self.words i }
-    {
-        writer_pacer::metrics(&self.words, i)
+        self.roster.metrics(i)
     }
 }
 
 // The bytes of a record that pacer i sent: the middle part of the pool where it was kept.
 pub fn sent_bytes(config: PacerConfig, i: u8, action: SendAction, pool: &[u8]) -> &[u8]
-    ensures { result.now ≡ sent_bytes config.limits i action pool.now }
+    ensures { result.now ≡ pacer.sent_bytes config.limits i action pool.now }
 {
-    writer_pacer::sent_bytes(config.limits(), i, action, pool)
+    send_action::sent_bytes(config.limits(), i, action, pool)
 }

@@ -19,25 +19,23 @@ use Rattle.config.specs.declared.refusal.Refusal.{Refusal}
 use Rattle.config.specs.declared.refusal.Refusal.TheVariants.{KindUnknown, TableFull}
 use Rattle.numeric.proofs.Choice.{by_test}
 use Rattle.numeric.specs.Float.{scaled}
-use Rattle.pacing.specs.declared.coalescing.InstanceKey.{InstanceKey}
+use Rattle.queue.specs.declared.entry.InstanceKey.{InstanceKey}
 use Rattle.signals.specs.RttEstimator.{any_inflated}
 use Rattle.control.specs.BudgetAllocator.{new_writer, blank_writer, taken_of, new_table, writers_of, place_of, place_for, with_row, without_row, entered, without, share_of, shares_of, budget_for, with_budget, allotted_table, one, registered, reallocated}
-use Rattle.control.specs.Controller.{new_controller, registered_in, sampled, ticked_with, core_ticked, controller_ticked, controller_set}
+use Rattle.control.specs.Controller.{new_controller, registered_in, sampled, CoreTicked, ControllerTicked, ticked_with, core_ticked, controller_ticked, controller_set}
 use Rattle.control.specs.declared.budget_allocator.AllocationConfig.{AllocationConfig}
 use Rattle.control.specs.declared.budget_allocator.BudgetAllocator.{BudgetAllocator}
 use Rattle.control.specs.declared.budget_allocator.Shares.{Shares}
 use Rattle.control.specs.declared.budget_allocator.WriterInfo.{WriterInfo}
 use Rattle.control.specs.declared.budget_allocator.WriterTable.{WriterTable}
 use Rattle.control.specs.declared.controller.CongestionController.{CongestionController}
-use Rattle.control.specs.declared.controller.ControllerTicked.{ControllerTicked}
-use Rattle.control.specs.declared.controller.CoreTicked.{CoreTicked}
-use Rattle.station.specs.Station.{joined, with_pacer, left_by, register_checks, register_leaves, registered_station, eagain_station, nacks_station, tos_station, rtt_station, budgeted_all, tick_leaves, ticked_station, rated_station, handed_station, sent_station}
-use Rattle.station.specs.declared.station.Station.{Station}
-use Rattle.tape.specs.Item.{words_of, item_at, takes, Placed, placed, is_end, stops, items_from, items_of}
+use Rattle.station.specs.Station.{Station, joined, with_pacer, left_by, register_checks, register_leaves, registered_station, eagain_station, nacks_station, tos_station, rtt_station, budgeted_all, tick_leaves, ticked_station, rated_station, handed_station, sent_station}
+use Rattle.tape.specs.Item.{words_of, item_at, takes, placed, is_end, stops, items_from, items_of}
 use Rattle.tape.specs.Run.{Player, player_of, new_player, fields, updates, told_text, Line, line_of, flag_number, updates_of, tick_told, rate_told, Step, silent, saying, ticked, rated, played, lines_of, text_of, tape_text}
 use Rattle.tape.specs.Text.{decimal_by, fields_text, line_text}
 use Rattle.tape.specs.declared.item.Item.{Item}
 use Rattle.tape.specs.declared.item.Item.TheVariants.{End, Broken, Advance, Register, Eagain, Tos, Nacks, Rtt, Tick, HandIn, Send, SetRate}
+use Rattle.tape.specs.declared.item.Placed.{Placed}
 use Rattle.tape.specs.declared.text.Fields.{Fields}
 use Rattle.tape.specs.declared.text.Fields.TheVariants.{Nothing}
 use Rattle.tape.proofs.Each.{Each, each_append, each_take, each_drop, each_lacking, each_replicate, each_map}
@@ -183,8 +181,8 @@ module _ (s : Station) (time : ℕ) (ok : IsBounded s) where
   bounded-leaves : (k : CoreTicked) → IsBounded (tick_leaves s time (ticked_with s.controller s.config.controller k)).state
   unfolding budgeted_all
   bounded-leaves k =
-      by_test (λ (t : ControllerTicked). IsBounded (tick_leaves s time t).state) k.changed
-      (λ e. (small-shared k.core.rate_controller.current_rate, ok.1)) (λ e. ok)
+      by_test (λ (t : ControllerTicked). IsBounded (tick_leaves s time t).state) k.1
+      (λ e. (small-shared k.0.rate_controller.current_rate, ok.1)) (λ e. ok)
 
   bounded-ticked : IsBounded (ticked_station s time).state
   unfolding ticked_station controller_ticked

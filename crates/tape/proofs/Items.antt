@@ -2,18 +2,24 @@
 use Prim.Native.Nat.{ℕ, zero, suc, ◌+◌, ◌-◌, ◌/◌, ◌%◌, ◌^◌, ◌≤◌, ◌<◌}
 use mathlib.Core.Bool.{false, true≢false}
 use mathlib.Core.List.{List, [], ◌∷◌}
-use mathlib.Core.Path.{◌≡◌, refl, ap, ◌∙◌}
+use mathlib.Core.Path.{◌≡◌, refl, ap, sym, ◌∙◌}
 use native.Mathlib.Decide.{dec_le}
 use native.Mathlib.Nat.{add-zero, sub-zero}
 use native.Mathlib.Omega.{arith}
 use borrow.Author.Tests.{leb-true, lt-leb}
 use lib.Dec.{leb, eqb}
 use lib.ListN.{length, length-take, length-drop}
+use Rattle.std.proofs.lemmas.Grind.{common_steps}
+use Rattle.std.proofs.Common.{Result, Ok, Err}
+use Rattle.config.specs.Config.{class_of}
 use Rattle.config.specs.declared.config.Priority.{Priority}
+use Rattle.config.specs.declared.refusal.Refusal.{Refusal}
 use Rattle.config.specs.declared.config.Priority.TheVariants.{P0, P1}
 use Rattle.numeric.proofs.Choice.{by_test}
-use Rattle.pacing.specs.Pool.{piece}
-use Rattle.tape.specs.Item.{words_of, whole_words, words_from, word_at, kind_of, value_of, class_of, whole, register_of, signal_of, hand_in_words, hand_in_of, item_by, item_of, item_at, takes, body_at, Placed, placed, is_end, stops, items_from, items_of}
+use Rattle.queue.specs.Pool.{piece}
+use Rattle.tape.specs.Item.{words_of, whole_words, words_from, word_at, kind_of, value_of, whole, classed, register_of, signal_of, hand_in_words, hand_in_by, hand_in_of, item_by, item_of, item_at, takes, body_at, placed, is_end, stops, items_from, items_of, items_at, Stands}
+use Rattle.tape.specs.declared.item.Placed.{Placed}
+use Rattle.tape.proofs.Each.{Each}
 use Rattle.tape.specs.declared.item.Item.{Item}
 use Rattle.tape.specs.declared.item.Item.TheVariants.{End, Broken, Advance, Register, Eagain, Tos, Nacks, Rtt, Tick, HandIn, Send, SetRate}
 
@@ -33,6 +39,22 @@ takes-least Tick = omega arith
 takes-least (HandIn pacer c n) = omega arith
 takes-least (Send pacer) = omega arith
 takes-least (SetRate rate) = omega arith
+
+-- what is neither the end nor broken does not stop the tape
+going : (i : Item) → (i ≡ End → ⊥) → (i ≡ Broken → ⊥) → stops i ≡ false
+unfolding stops
+going End h q = absurd (h refl)
+going Broken h q = absurd (q refl)
+going (Advance v) h q = refl
+going (Register c id) h q = refl
+going Eagain h q = refl
+going (Tos tos) h q = refl
+going (Nacks count) h q = refl
+going (Rtt peer bits) h q = refl
+going Tick h q = refl
+going (HandIn pacer c n) h q = refl
+going (Send pacer) h q = refl
+going (SetRate rate) h q = refl
 
 -- an id of at most 8 digits
 abbrev pub IsShortId : Item → Type 0
@@ -61,9 +83,14 @@ module _ (bytes : List ℕ) (k : ℕ) (first : k + 1 ≤ whole_words bytes) wher
       (λ e. (omega (arith, takes-least i, leb-true (takes i) (words_from bytes k) e), short))
       (λ e. (first, tt))
 
+  inside-classed : (r : Result Priority Refusal) (item : Priority → Item) → ((c : Priority) → Inside (item c)) → Inside (classed r item)
+  unfolding takes
+  inside-classed (Ok c) item h = h c
+  inside-classed (Err e) item h = (first, tt)
+
   inside-register : (v : ℕ) → v < 2 ^ 28 → Inside (register_of v)
   unfolding takes register_of
-  inside-register v h = by_test Inside (eqb (v % 4) 3) (λ e. (first, tt)) (λ e. (first, omega arith))
+  inside-register v h = inside-classed (class_of (v % 4)) (λ c. Register c (v / 4)) (λ c. (first, omega arith))
 
   inside-signal : (v : ℕ) → Inside (signal_of bytes k v)
   unfolding takes signal_of
@@ -76,8 +103,8 @@ module _ (bytes : List ℕ) (k : ℕ) (first : k + 1 ≤ whole_words bytes) wher
   inside-hand-in : (v : ℕ) → Inside (hand_in_of bytes k v)
   unfolding takes hand_in_of
   inside-hand-in v =
-      by_test Inside (eqb (v / 2048 % 4) 3) (λ e. (first, tt))
-      (λ e. inside-whole (HandIn (v / 8192 % 4) (class_of (v / 2048 % 4)) (v % 2048)) tt)
+      inside-classed (class_of (v / 2048 % 4)) (hand_in_by bytes k (v / 8192 % 4) (v % 2048))
+      (λ c. inside-whole (HandIn (v / 8192 % 4) c (v % 2048)) tt)
 
   inside-kind : (kind v : ℕ) → v < 2 ^ 28 → Inside (item_by bytes k kind v)
   unfolding takes item_by
@@ -189,19 +216,53 @@ module _ (bytes : List ℕ) where
           absurd (omega arith)
 
   -- nothing is listed from the end on
-  pub items_end : (k : ℕ) → item_at bytes k ≡ End → (k < words) × (items_from (words - k) bytes k 0 ≡ [])
+  pub items_end : (k : ℕ) → item_at bytes k ≡ End → items_at bytes k ≡ []
   items_end k e =
       let h : k < words = end_before k e in
       let l : words - k ≡ suc (words - suc k) = omega arith in
-      (h, ap (λ (n : ℕ). items_from n bytes k 0) l ∙ items-stop (words - suc k) k e)
+      ap (λ (n : ℕ). items_from n bytes k 0) l ∙ items-stop (words - suc k) k e
 
   -- what is broken is listed last, the missing end too
-  pub items_broken : (k : ℕ) → item_at bytes k ≡ Broken → items_from (words - k) bytes k 0 ≡ placed k Broken ∷ []
+  pub items_broken : (k : ℕ) → item_at bytes k ≡ Broken → items_at bytes k ≡ placed k Broken ∷ []
   items_broken k e = items-break (words - k) k e
 
-  pub items_first : items_of bytes ≡ items_from (words - 0) bytes 0 0
+  -- what is neither is followed by the items behind it
+  pub items_more :
+      (k : ℕ) (item : Item) → item ≡ item_at bytes k → (item ≡ End → ⊥) → (item ≡ Broken → ⊥)
+      → items_at bytes k ≡ placed k item ∷ items_at bytes (k + takes item)
+  items_more k item e h q =
+      let s : stops (item_at bytes k) ≡ false = ap stops (sym e) ∙ going item h q in
+      rw e (items_next k s)
+
+  -- .. and is whole
+  pub items_inside :
+      (k : ℕ) (item : Item) → item ≡ item_at bytes k → (item ≡ End → ⊥) → (item ≡ Broken → ⊥)
+      → k + takes item ≤ length bytes
+  items_inside k item e h q =
+      let s : stops (item_at bytes k) ≡ false = ap stops (sym e) ∙ going item h q in
+      rw e (omega (arith, item_whole k s))
+
+  pub items_first : items_at bytes 0 ≡ items_of bytes
   unfolding items_of
   items_first = rw sub-zero
+
+module _ (bytes : List ℕ) where
+  stand_from :
+      (left k pass : ℕ) → words bytes ≤ k + left → Each (Stands bytes) (items_from left bytes k pass)
+  unfolding items_from
+  stand_from zero k pass h = (item_missing bytes k (omega arith), tt)
+  stand_from (suc left) k zero h =
+      by_test (Each (Stands bytes)) (stops (item_at bytes k))
+      (λ e. by_test (Each (Stands bytes)) (is_end (item_at bytes k)) (λ q. tt) (λ q. (refl, tt)))
+      (λ e. (refl, stand_from left (suc k) (takes (item_at bytes k) - 1) (omega arith)))
+  stand_from (suc left) k (suc pass) h = stand_from left (suc k) pass (omega arith)
+
+  -- every item stands at its index
+  pub items_stand : Each (Stands bytes) (items_of bytes)
+  unfolding items_of
+  items_stand = stand_from (words bytes) 0 0 (omega arith)
+
+pub ruleset item_steps = (common_steps, items_end, items_broken, items_more, items_inside)
 
 -- ---- examples
 
@@ -214,5 +275,5 @@ whole_tape =
 pub whole_tape_items :
     items_of whole_tape
     ≡ placed 0 (Register P0 1) ∷ placed 1 (Register P1 2) ∷ placed 2 Eagain ∷ placed 3 (Advance 100000) ∷ placed 4 Tick ∷ placed 5 (Send 0) ∷ []
-unfolding word_at class_of whole register_of signal_of hand_in_of item_by item_at takes is_end stops items_from items_of
+unfolding word_at whole register_of signal_of hand_in_of item_by item_at takes is_end stops items_from items_of
 whole_tape_items = refl

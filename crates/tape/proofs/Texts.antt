@@ -1,36 +1,31 @@
--- Laws of bytes put one after the other, and how long numbers and lines are. Assumes nothing.
-use Prim.Native.Nat.{ℕ, zero, suc, ◌+◌, ◌-◌, ◌/◌, ◌%◌, ◌^◌, ◌*◌, ◌≤◌, ◌<◌}
-use mathlib.Core.Bool.{Bool, true, false, cond}
-use mathlib.Core.List.{List, [], ◌∷◌, ◌++◌, append_assoc, append-nil}
-use mathlib.Core.Path.{◌≡◌, refl, sym, ◌∙◌}
+-- Laws of texts put one after the other, and how long numbers and lines are. Assumes nothing.
 use native.Mathlib.Decide.{dec_le}
-use native.Mathlib.Nat.{add-zero, pow-suc}
-use native.Mathlib.Numerals.{add-one}
-use native.Mathlib.Omega.{arith}
-use borrow.Author.Tests.{lt-ltb, le-ltb, ltb-false}
-use lib.Dec.{ltb}
-use lib.ListN.{length, take, drop, set, get_or, replicate, length-append, length-drop, length-set}
-use lib.Seq.{sets, sets-eq, set_out, take-suc, take_all, length-take-le}
+use Rattle.std.proofs.Common.{◌≡◌, refl, sym, ap, ◌∙◌, ℕ, zero, suc, ◌+◌, ◌*◌, ◌/◌, ◌%◌, ◌^◌, ◌≤◌, ◌<◌, min, max, Bool, true, false, cond, ltb, lt-ltb, le-ltb, ltb-false, List, [], ◌∷◌, ◌++◌, length, drop, set, arith, length-append, length-set}
+use Rattle.std.proofs.Math.Nat.{add-zero, pow-suc}
+use Rattle.std.proofs.Math.Seq.{set_out, sets, sets-eq}
+use Rattle.std.proofs.lemmas.Grind.{common_steps}
+use Rattle.std.specs.Borrow.{MutBor}
 use Rattle.config.specs.Config.{class_number}
 use Rattle.config.specs.Refusal.{number_of}
-use Rattle.config.specs.declared.refusal.Refusal.TheVariants.{KindUnknown}
 use Rattle.config.specs.declared.config.Priority.TheVariants.{P0, P1}
-use Rattle.control.specs.BudgetAllocator.{no_writer, row_at, writer_of, one}
+use Rattle.config.specs.declared.refusal.Refusal.TheVariants.{KindUnknown}
+use Rattle.control.specs.BudgetAllocator.{writer_of, one}
 use Rattle.control.specs.declared.budget_allocator.WriterInfo.{WriterInfo}
-use Rattle.tape.specs.Text.{written, ended, decimal_by, decimal, glyph, space, marked, fields_text, update_text, each_text, updates_text, line_text}
+use Rattle.tape.specs.Text.{lines_in, written, ended, added, decimal_by, decimal, glyph, space, marked, fields_text, update_text, each_text, updates_text, line_text}
 use Rattle.tape.specs.declared.text.Fields.{Fields}
 use Rattle.tape.specs.declared.text.Fields.TheVariants.{Nothing, Flag, Unchanged, Sent, Empty, Wait}
+use Rattle.tape.specs.declared.text.Lines.{Lines}
 use Rattle.tape.proofs.Each.{Each}
 
--- ---- bytes put one after the other
+-- ---- texts one after the other
 
-pub length-written : (ls : List ℕ) (at : ℕ) (text : List ℕ) → length (written ls at text) ≡ length ls
+length-written : (ls : List ℕ) (at : ℕ) (text : List ℕ) → length (written ls at text) ≡ length ls
 unfolding written
 length-written ls at [] = refl
 length-written ls at (b ∷ bs) = length-written (set ls at b) (suc at) bs ∙ length-set ls at b
 
 -- beyond the end nothing is written
-pub written_beyond : (ls : List ℕ) (at : ℕ) (text : List ℕ) → length ls ≤ at → written ls at text ≡ ls
+written_beyond : (ls : List ℕ) (at : ℕ) (text : List ℕ) → length ls ≤ at → written ls at text ≡ ls
 unfolding written
 written_beyond ls at [] h = refl
 written_beyond ls at (b ∷ bs) h = rw (set_out ls at b h) (written_beyond ls (suc at) bs (omega arith))
@@ -44,7 +39,7 @@ written-append ls at (x ∷ xs) b =
     rw (← e) (written-append (set ls at x) (suc at) xs b)
 
 -- two texts, the second put where the first ended
-pub written-written :
+written-written :
     (ls : List ℕ) (at : ℕ) (a b : List ℕ)
     → written (written ls at a) (ended (length ls) at (length a)) b ≡ written ls at (a ++ b)
 unfolding ended
@@ -58,115 +53,36 @@ written-written ls at a b = go (dec_le (at + length a) (length ls))
         written_beyond (written ls at a) _ b (rw length-written (omega arith))
         ∙ sym (written-append ls at a b ∙ written_beyond (written ls at a) _ b (rw length-written (omega arith)))
 
-pub ended-ended : (m at a b : ℕ) → ended m (ended m at a) b ≡ ended m at (a + b)
+ended-ended : (m at a b : ℕ) → ended m (ended m at a) b ≡ ended m at (a + b)
 unfolding ended
 ended-ended m at a b = omega arith
 
--- what a put leaves and where it ends
-abbrev pub Put : List ℕ → ℕ → List ℕ → List ℕ → ℕ → Type 0
-Put ls at text left next = (left ≡ written ls at text) × (next ≡ ended (length ls) at (length text))
+pub added_both : (ls : Lines) (a b : List ℕ) → added (added ls a) b ≡ added ls (a ++ b)
+unfolding added
+added_both ls a b =
+    rw (written-written ls.bytes.now ls.end a b, length-written ls.bytes.now ls.end a, length-append a b, ended-ended (length ls.bytes.now) ls.end (length a) (length b)) refl
 
--- two puts one after the other
-pub join :
-    (ls : List ℕ) (at : ℕ) (a b : List ℕ) {left last : List ℕ} {next end : ℕ}
-    → Put ls at a left next → Put left next b last end → Put ls at (a ++ b) last end
-join ls at a b p q = (
-  q.0 ∙ rw (p.0, p.1) (written-written ls at a b),
-  q.1 ∙ rw (p.0, p.1, length-written, length-append) (ended-ended (length ls) at (length a) (length b)),
-)
+pub added_nothing : (ls : Lines) → ls ≡ added ls []
+unfolding added written ended
+added_nothing ls =
+    let stays : max ls.end (min (ls.end + 0) (length ls.bytes.now)) ≡ ls.end = omega arith in
+    rw stays
 
-pub put-nothing : (ls : List ℕ) (at : ℕ) → Put ls at [] ls at
-unfolding written ended
-put-nothing ls at = (refl, omega arith)
+-- ---- a byte
 
--- one byte more of a text
-pub join_byte :
-    (ls : List ℕ) (at : ℕ) (text : List ℕ) (k : ℕ) {left last : List ℕ} {next end : ℕ} → k < length text
-    → Put ls at (take k text) left next → Put left next (get_or text k 0 ∷ []) last end → Put ls at (take (k + 1) text) last end
-join_byte ls at text k h p q = rw (add-one, take-suc text k 0 h) (join ls at (take k text) (get_or text k 0 ∷ []) p q)
+pub added_inside :
+    (ls : Lines) (b : ℕ) → ls.end < length ls.bytes.now
+    → record { bytes = record ls.bytes { now = set ls.bytes.now ls.end b }; end = ls.end + 1 } ≡ added ls (b ∷ [])
+unfolding added written ended
+added_inside ls b h =
+    let next : max ls.end (min (ls.end + 1) (length ls.bytes.now)) ≡ ls.end + 1 = omega arith in
+    rw next
 
--- ---- digits
-
--- what is left of a number with its last digit gone has a digit less
-fewer : (k n : ℕ) → 10 ≤ n → n < 10 ^ suc k → (1 ≤ k) × (n / 10 < 10 ^ k)
-fewer zero n h q = absurd (omega arith)
-fewer (suc k) n h q = (omega arith, omega (arith, pow-suc 10 (suc k)))
-
-drop_set_same : (l : List ℕ) (i a : ℕ) → i < length l → drop i (set l i a) ≡ a ∷ drop (suc i) l
-drop_set_same [] i a h = absurd (omega arith)
-drop_set_same (x ∷ xs) zero a h = refl
-drop_set_same (x ∷ xs) (suc i) a h = drop_set_same xs i a (omega arith)
-
--- the digits made so far stand behind place `first`, and those of `rest` belong before them
-pub record Spelt (n : ℕ) (digits : List ℕ) (first rest : ℕ) : Type 0 where
-  pub within : first ≤ 19
-  pub long : length digits ≡ 20
-  pub few : rest < 10 ^ suc first
-  pub spells : decimal_by (suc first) rest ++ drop (suc first) digits ≡ decimal n
-
-pub spelt_start : (n : ℕ) → n < 10 ^ 20 → Spelt n (replicate 20 0) 19 n
-spelt_start n h = record { within = omega arith; long = refl; few = h; spells = append-nil (decimal n) }
-
--- there is room for a digit more
-pub spelt_room : {n : ℕ} {digits : List ℕ} {first rest : ℕ} → Spelt n digits first rest → 10 ≤ rest → 1 ≤ first
-spelt_room {n} {digits} {first} {rest} s h = (fewer first rest h s.few).0
-
-spelling : (f n : ℕ) → 10 ≤ n → decimal_by (suc f) n ≡ decimal_by f (n / 10) ++ (glyph (n % 10) ∷ [])
-unfolding decimal_by
-spelling f n h = rw (le-ltb n 10 h)
-
-spelling-last : (f n : ℕ) → n < 10 → decimal_by (suc f) n ≡ glyph n ∷ []
-unfolding decimal_by
-spelling-last f n h = rw (lt-ltb n 10 h)
-
-pub spelt_more :
-    {n : ℕ} {digits : List ℕ} {first rest : ℕ} → Spelt n digits first rest → 10 ≤ rest
-    → Spelt n (set digits first (glyph (rest % 10))) (first - 1) (rest / 10)
-spelt_more {n} {digits} {first} {rest} s h =
-    let f = fewer first rest h s.few in
-    let e : suc (first - 1) ≡ first = omega arith in
-    record {
-      within = omega arith;
-      long = length-set digits first _ ∙ s.long;
-      few = rw e f.1;
-      spells =
-          rw (e, drop_set_same digits first (glyph (rest % 10)) (omega arith))
-          (rw (spelling first rest h, append_assoc) at s.spells);
-    }
-
--- with the first digit all of them stand there
-pub spelt_last :
-    {n : ℕ} {digits : List ℕ} {first rest : ℕ} → Spelt n digits first rest → rest < 10
-    → take (20 - first) (drop first (set digits first (glyph rest))) ≡ decimal n
-spelt_last {n} {digits} {first} {rest} s h =
-    take_all (20 - first) (drop first (set digits first (glyph rest))) (simp (length-drop, length-set) (omega arith))
-    ∙ drop_set_same digits first (glyph rest) (omega arith)
-    ∙ rw (spelling-last first rest h) at s.spells
-
--- ---- updates
-
-each_append : (ws : List WriterInfo) (w : WriterInfo) → each_text (ws ++ (w ∷ [])) ≡ each_text ws ++ update_text w
-unfolding each_text
-each_append [] w = append-nil (update_text w)
-each_append (x ∷ xs) w = rw (each_append xs w) (sym (append_assoc (update_text x) (each_text xs) (update_text w)))
-
--- one row more
-pub join-row :
-    (ls : List ℕ) (at : ℕ) (rows : List WriterInfo) (k : ℕ) {left last : List ℕ} {next end : ℕ} → k < length rows
-    → Put ls at (each_text (take k rows)) left next → Put left next (update_text (row_at rows k)) last end
-    → Put ls at (each_text (take (k + 1) rows)) last end
-join-row ls at rows k h p q =
-    rw (add-one, take-suc rows k no_writer h, each_append)
-    (join ls at (each_text (take k rows)) (update_text (row_at rows k)) p q)
-
--- the count, and then every row
-pub join-updates :
-    (ls : List ℕ) (at : ℕ) (rows : List WriterInfo) (n : ℕ) {left last : List ℕ} {next end : ℕ} → n ≤ length rows
-    → Put ls at (marked space n) left next → Put left next (each_text (take n rows)) last end
-    → Put ls at (updates_text (take n rows)) last end
-unfolding updates_text
-join-updates ls at rows n h p q =
-    rw (length-take-le n rows h) (join ls at (marked space n) (each_text (take n rows)) p q)
+pub added_beyond : (ls : Lines) (b : ℕ) → length ls.bytes.now ≤ ls.end → ls ≡ added ls (b ∷ [])
+unfolding added written ended
+added_beyond ls b h =
+    let stays : max ls.end (min (ls.end + 1) (length ls.bytes.now)) ≡ ls.end = omega arith in
+    rw (stays, set_out ls.bytes.now ls.end b h)
 
 -- ---- where there is room
 
@@ -175,15 +91,43 @@ unfolding written
 written-sets ls at [] = refl
 written-sets ls at (b ∷ bs) = written-sets (set ls at b) (suc at) bs
 
--- a text that fits lies in the buffer as it is, and the bytes before and after it stay
-pub fits :
-    (ls : List ℕ) (at : ℕ) (text : List ℕ) → at + length text ≤ length ls
-    → written ls at text ≡ take at ls ++ (text ++ drop (at + length text) ls)
-fits ls at text h = written-sets ls at text ∙ sets-eq text ls at h ∙ append_assoc (take at ls) text (drop (at + length text) ls)
+-- a text that fits a buffer without lines lies at its front, and the bytes behind it stay
+pub filled :
+    (bytes : MutBor (List ℕ)) (text : List ℕ) → length text ≤ length bytes.now
+    → added (lines_in bytes) text ≡ record { bytes = record bytes { now = text ++ drop (length text) bytes.now }; end = length text }
+unfolding added ended
+filled bytes text h =
+    let next : max 0 (min (0 + length text) (length bytes.now)) ≡ length text = omega arith in
+    let none : 0 + length text ≡ length text = omega arith in
+    rw (next, written-sets bytes.now 0 text, sets-eq text bytes.now 0 (omega arith), none)
 
-pub ended-fits : (m at n : ℕ) → at + n ≤ m → ended m at n ≡ at + n
-unfolding ended
-ended-fits m at n h = omega arith
+-- ---- digits
+
+-- more digits than a number has make no difference
+decimal_more : (f n : ℕ) → n < 10 ^ suc f → decimal_by (suc f) n ≡ decimal_by (suc (suc f)) n
+unfolding decimal_by
+decimal_more zero n h = rw (lt-ltb n 10 h)
+decimal_more (suc f) n h =
+    let few : n / 10 < 10 ^ suc f = omega (arith, pow-suc 10 (suc f)) in
+    ap (λ (digits : List ℕ). cond (ltb n 10) (glyph n ∷ []) (digits ++ (glyph (n % 10) ∷ []))) (decimal_more f (n / 10) few)
+
+pub decimal_grown : (n : ℕ) → 10 ≤ n → n < 2 ^ 64 → decimal (n / 10) ++ ((48 + n % 10) ∷ []) ≡ decimal n
+unfolding decimal_by
+decimal_grown n h q =
+    rw (le-ltb n 10 h)
+    (ap (λ (digits : List ℕ). digits ++ (glyph (n % 10) ∷ [])) (sym (decimal_more 18 (n / 10) (omega arith))))
+
+pub decimal_digit : (n : ℕ) → n < 10 → ((48 + n % 10) ∷ []) ≡ decimal n
+unfolding decimal_by
+decimal_digit n h = let e : n % 10 ≡ n = omega arith in rw (lt-ltb n 10 h, e)
+
+-- ---- what the writers of lines go by
+
+pub ruleset put_steps = (common_steps, added_inside, added_beyond)
+
+pub ruleset text_steps = (common_steps, added_nothing, added_both)
+
+pub ruleset digit_steps = (common_steps, added_both, decimal_grown, decimal_digit)
 
 -- ---- how long numbers and lines are
 
@@ -195,6 +139,11 @@ digits_most (suc f) n = go (ltb n 10) (digits_most f (n / 10))
     go : (t : Bool) → length (decimal_by f (n / 10)) ≤ f → length (cond t (glyph n ∷ []) (decimal_by f (n / 10) ++ (glyph (n % 10) ∷ []))) ≤ suc f
     go true h = omega arith
     go false h = rw length-append (omega arith)
+
+-- what is left of a number with its last digit gone has a digit less
+fewer : (k n : ℕ) → 10 ≤ n → n < 10 ^ suc k → (1 ≤ k) × (n / 10 < 10 ^ k)
+fewer zero n h q = absurd (omega arith)
+fewer (suc k) n h q = (omega arith, omega (arith, pow-suc 10 (suc k)))
 
 -- a number below 10 ^ k has at most k digits
 pub digits_few : (f k n : ℕ) → 1 ≤ k → n < 10 ^ k → length (decimal_by f n) ≤ k

@@ -1,10 +1,15 @@
 -- The items of a tape (document 01, "The tape"): its words, what they say, and the list of items up to the end. Definitions only.
-use Rattle.std.specs.Prelude.{ℕ, zero, suc, ◌+◌, ◌-◌, ◌*◌, ◌/◌, ◌%◌, Bool, true, false, cond, List, [], ◌∷◌, leb, ltb, eqb, length, get_or}
+use Rattle.std.specs.Prelude.{◌≡◌, ℕ, zero, suc, ◌+◌, ◌-◌, ◌*◌, ◌/◌, ◌%◌, Bool, true, false, cond, List, [], ◌∷◌, leb, ltb, eqb, length, get_or, Option, Some, None, Result, Ok, Err}
+use Rattle.config.specs.Config.{class_of}
 use Rattle.config.specs.declared.config.Priority.{Priority}
 use Rattle.config.specs.declared.config.Priority.TheVariants.{P0, P1, P2}
-use Rattle.pacing.specs.Pool.{piece}
-use Rattle.pacing.specs.declared.coalescing.InstanceKey.{InstanceKey}
+use Rattle.config.specs.declared.refusal.Refusal.{Refusal}
+use Rattle.queue.specs.Entries.{key_of_hashes}
+use Rattle.queue.specs.Pool.{piece}
+use Rattle.queue.specs.declared.entry.InstanceKey.{InstanceKey}
 use Rattle.tape.specs.declared.item.Item.{Item}
+use Rattle.tape.specs.declared.item.Items.{Items}
+use Rattle.tape.specs.declared.item.Placed.{Placed}
 use Rattle.tape.specs.declared.item.Item.TheVariants.{End, Broken, Advance, Register, Eagain, Tos, Nacks, Rtt, Tick, HandIn, Send, SetRate}
 
 -- ---- words
@@ -42,9 +47,10 @@ value_of word = word % 268435456
 
 -- ---- one item; k is the index of its first word, v that word's value
 
--- "class (0 P0 urgent holds, 1 P1 check-outs, 2 P2 rack readings)"; 3 is no class, and is told apart before
-unfoldable pub class_of : ℕ → Priority
-class_of bits = cond (eqb bits 0) P0 (cond (eqb bits 1) P1 P2)
+-- "class (0 P0 urgent holds, 1 P1 check-outs, 2 P2 rack readings)"; 5: unknown class, which 3 is
+abbrev pub classed : Result Priority Refusal → (Priority → Item) → Item
+classed (Ok c) item = item c
+classed (Err e) item = Broken
 
 -- 5: "a tape that breaks off"; an item of m words is cut short where fewer are whole from word k on
 unfoldable pub whole : List ℕ → ℕ → ℕ → Item → Item
@@ -52,7 +58,7 @@ whole bytes k m item = cond (leb m (words_from bytes k)) item Broken
 
 -- "2 register: bits 0-1 class .., above them the id"; 5: unknown class
 unfoldable pub register_of : ℕ → Item
-register_of v = cond (eqb (v % 4) 3) Broken (Register (class_of (v % 4)) (v / 4))
+register_of v = classed (class_of (v % 4)) (λ c. Register c (v / 4))
 
 -- "3 RTT, peer in bits 8-27, f32 bits in the next word"
 abbrev pub rtt_of : List ℕ → ℕ → ℕ → Item
@@ -74,13 +80,12 @@ key_words P2 = 4
 abbrev pub hand_in_words : Priority → ℕ → ℕ
 hand_in_words c n = 1 + key_words c + (n + 3) / 4
 
-abbrev pub hand_in_by : List ℕ → ℕ → ℕ → Priority → ℕ → Item
-hand_in_by bytes k pacer c n = whole bytes k (hand_in_words c n) (HandIn pacer c n)
+abbrev pub hand_in_by : List ℕ → ℕ → ℕ → ℕ → Priority → Item
+hand_in_by bytes k pacer n c = whole bytes k (hand_in_words c n) (HandIn pacer c n)
 
 -- "5 hand-in: bits 0-10 length, 11-12 class, 13-14 pacer"; 5: unknown class
 unfoldable pub hand_in_of : List ℕ → ℕ → ℕ → Item
-hand_in_of bytes k v =
-    cond (eqb (v / 2048 % 4) 3) Broken (hand_in_by bytes k (v / 8192 % 4) (class_of (v / 2048 % 4)) (v % 2048))
+hand_in_of bytes k v = classed (class_of (v / 2048 % 4)) (hand_in_by bytes k (v / 8192 % 4) (v % 2048))
 
 -- an item by its kind: "0 end; .. 1 advance by value microseconds ..; 2 register ..; 3 signal ..; 4 tick; 5 hand-in ..;
 -- 6 send attempt, pacer in bits 0-1; 7 set rate to the value"; 5: unknown word kind
@@ -115,25 +120,18 @@ takes (HandIn pacer c n) = hand_in_words c n
 takes (Send pacer) = 1
 takes (SetRate rate) = 1
 
--- the word behind an item that is whole
-unfoldable pub word_after : List ℕ → ℕ → Item → ℕ
-word_after bytes k item = cond (leb (takes item) (words_from bytes k)) (k + takes item) k
-
 -- ---- a hand-in's key and bytes
 
 -- "low half first"
 abbrev pub hash_of : ℕ → ℕ → ℕ
 hash_of low high = low + 4294967296 * high
 
-abbrev pub key_of : ℕ → ℕ → InstanceKey
-key_of topic key = record { topic_hash = topic; key_hash = key }
-
 -- "for P2 four key words (topic hash, key hash, low half first)"; the others have no key
 unfoldable pub key_at : List ℕ → ℕ → Priority → InstanceKey
-key_at bytes k P0 = key_of 0 0
-key_at bytes k P1 = key_of 0 0
+key_at bytes k P0 = key_of_hashes 0 0
+key_at bytes k P1 = key_of_hashes 0 0
 key_at bytes k P2 =
-    key_of (hash_of (word_at bytes (k + 1)) (word_at bytes (k + 2))) (hash_of (word_at bytes (k + 3)) (word_at bytes (k + 4)))
+    key_of_hashes (hash_of (word_at bytes (k + 1)) (word_at bytes (k + 2))) (hash_of (word_at bytes (k + 3)) (word_at bytes (k + 4)))
 
 -- where the bytes begin: behind the first word and the key's
 abbrev pub body_start : ℕ → Priority → ℕ
@@ -145,10 +143,6 @@ body_at bytes k c n = piece bytes (body_start k c) n
 -- ---- the list of items
 
 -- an item and the index of its first word
-pub record Placed : Type 0 where
-  pub index : ℕ
-  pub item : Item
-
 abbrev pub placed : ℕ → Item → Placed
 placed k item = record { index = k; item = item }
 
@@ -198,3 +192,19 @@ items_from (suc left) bytes k (suc pass) = items_from left bytes (suc k) pass
 
 unfoldable pub items_of : List ℕ → List Placed
 items_of bytes = items_from (words_of (length bytes)) bytes 0 0
+
+-- an item stands at its index
+abbrev pub Stands : List ℕ → Placed → Type 0
+Stands bytes x = item_at bytes x.index ≡ x.item
+
+-- the items from word k on
+abbrev pub items_at : List ℕ → ℕ → List Placed
+items_at bytes k = items_from (words_of (length bytes) - k) bytes k 0
+
+-- the items that are still to come; none where the tape has stopped
+abbrev pub items_on : List ℕ → Option ℕ → List Placed
+items_on bytes None = []
+items_on bytes (Some k) = items_at bytes k
+
+abbrev pub items_left : Items → List Placed
+items_left s = items_on s.tape.now s.next

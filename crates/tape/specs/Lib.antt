@@ -1,4 +1,3 @@
 pub mod Item
 pub mod Text
 pub mod Run
-pub mod Desk

@@ -1,6 +1,6 @@
 -- The run of a tape ("The tape"): what each item does to a station, the clock and the pool, and which line it prints.
 -- Definitions only.
-use Rattle.std.specs.Prelude.{ℕ, ◌+◌, ◌*◌, ◌^◌, min, Bool, true, cond, List, [], ◌∷◌, ◌++◌, ltb, length, drop, replicate, Result, Ok, Err}
+use Rattle.std.specs.Prelude.{◌≡◌, ℕ, ◌+◌, ◌*◌, ◌^◌, min, Bool, true, cond, List, [], ◌∷◌, ◌++◌, ltb, length, drop, replicate, Result, Ok, Err}
 use Rattle.std.specs.Float.{binary32}
 use Rattle.std.specs.Float.Ieee.{of_bits}
 use Rattle.config.specs.Config.{defaults, settings_with}
@@ -11,20 +11,21 @@ use Rattle.config.specs.declared.config.EcnMode.TheVariants.{Opportunistic}
 use Rattle.config.specs.declared.config.Priority.{Priority}
 use Rattle.config.specs.declared.refusal.Refusal.{Refusal}
 use Rattle.config.specs.declared.refusal.Refusal.TheVariants.{KindUnknown, BufferTooShort}
-use Rattle.pacing.specs.Ring.{fate_number}
+use Rattle.queue.specs.Fates.{fate_number}
 use Rattle.pacing.specs.WriterPacer.{action_number}
-use Rattle.pacing.specs.declared.writer_pacer.SendAction.{SendAction}
-use Rattle.pacing.specs.declared.writer_pacer.SendAction.TheVariants as action
+use Rattle.pacing.specs.declared.send_action.SendAction.{SendAction}
+use Rattle.pacing.specs.declared.send_action.SendAction.TheVariants as action
 use Rattle.control.specs.BudgetAllocator.{writers_of}
 use Rattle.control.specs.declared.budget_allocator.WriterInfo.{WriterInfo}
-use Rattle.station.specs.Station.{station_config_of, new_station, registered_station, eagain_station, nacks_station, tos_station, rtt_station, ticked_station, rated_station, handed_station, pool_handed, sent_station}
-use Rattle.station.specs.declared.station.Station.{Station}
-use Rattle.tape.specs.Item.{words_of, key_at, body_at, Placed, items_of}
-use Rattle.tape.specs.Text.{header, fields_text, updates_text, line_text}
+use Rattle.station.specs.Station.{Station, station_config_of, new_station, registered_station, eagain_station, nacks_station, tos_station, rtt_station, ticked_station, rated_station, handed_station, pool_handed, sent_station}
+use Rattle.tape.specs.Item.{words_of, key_at, body_at, items_of}
+use Rattle.tape.specs.Text.{added, header, fields_text, updates_text, line_text}
 use Rattle.tape.specs.declared.item.Item.{Item}
 use Rattle.tape.specs.declared.item.Item.TheVariants.{End, Broken, Advance, Register, Eagain, Tos, Nacks, Rtt, Tick, HandIn, Send, SetRate}
-use Rattle.tape.specs.declared.run.TapeRun.{TapeRun}
+use Rattle.tape.specs.declared.item.Placed.{Placed}
+use Rattle.tape.specs.declared.run.Player as lent
 use Rattle.tape.specs.declared.text.Fields.{Fields}
+use Rattle.tape.specs.declared.text.Lines.{Lines}
 use Rattle.tape.specs.declared.text.Fields.TheVariants.{Nothing, Flag, Unchanged, Sent, Empty, Wait}
 
 -- ---- what a run holds
@@ -41,6 +42,10 @@ pub record Player : Type 0 where
 
 abbrev pub player_of : Station → ℕ → List ℕ → Player
 player_of s clock pool = record { station = s; clock = clock; pool = pool }
+
+-- what the program's player holds, whose pool is lent
+abbrev pub seen : lent.Player → Player
+seen p = player_of p.station p.clock p.pool.now
 
 -- 4 × 1,472 × (2 + 4 + 2) bytes
 abbrev pub new_player : Player
@@ -164,6 +169,10 @@ unfoldable pub text_of : List Line → List ℕ
 text_of [] = []
 text_of (l ∷ ls) = line_text l.index l.answer (told_text l.told) ++ text_of ls
 
+-- a player and the lines after a step: as it leaves him, and its lines behind those that stood there
+abbrev pub Leaves : Step → Player → Lines → Lines → Type 0
+Leaves x p before after = (p ≡ x.player) × (after ≡ added before (text_of x.lines))
+
 -- "It prints the header, then for each word of kinds 2 to 7 its index, its answer .. and fields"
 unfoldable pub tape_text : List ℕ → List ℕ
 tape_text bytes = header ++ text_of (lines_of bytes new_player (items_of bytes))
@@ -172,12 +181,9 @@ tape_text bytes = header ++ text_of (lines_of bytes new_player (items_of bytes))
 abbrev pub room_for : ℕ → ℕ
 room_for bytes = 24 + 192 * words_of bytes
 
-abbrev pub run_of : ℕ → ℕ → TapeRun
-run_of answer n = record { answer = answer; length = n }
-
 -- "its result being their length"
-unfoldable pub ran_tape : List ℕ → ℕ → TapeRun
-ran_tape bytes room = cond (ltb room (room_for (length bytes))) (run_of (number_of BufferTooShort) 0) (run_of 0 (length (tape_text bytes)))
+unfoldable pub ran_tape : List ℕ → ℕ → Result ℕ Refusal
+ran_tape bytes room = cond (ltb room (room_for (length bytes))) (Err BufferTooShort) (Ok (length (tape_text bytes)))
 
 -- what it leaves of a lent buffer: bytes past the lines keep their old values
 unfoldable pub lines_left : List ℕ → List ℕ → List ℕ

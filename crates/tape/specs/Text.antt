@@ -1,8 +1,10 @@
 -- The lines that a tape's run prints (document 01, "The tape"): their bytes, and where they lie in a lent buffer. Definitions only.
 use Rattle.std.specs.Prelude.{ℕ, zero, suc, ◌+◌, ◌/◌, ◌%◌, min, max, true, false, cond, List, [], ◌∷◌, ◌++◌, ltb, length, set}
+use Rattle.std.specs.Borrow.{MutBor}
 use Rattle.config.specs.Config.{class_number}
 use Rattle.control.specs.declared.budget_allocator.WriterInfo.{WriterInfo}
 use Rattle.tape.specs.declared.text.Fields.{Fields}
+use Rattle.tape.specs.declared.text.Lines.{Lines}
 use Rattle.tape.specs.declared.text.Fields.TheVariants.{Nothing, Flag, Unchanged, Sent, Empty, Wait}
 
 -- ---- bytes in a lent buffer
@@ -15,6 +17,15 @@ written ls at (b ∷ bs) = written (set ls at b) (suc at) bs
 -- the place after n bytes put from `at` on in a buffer of m
 unfoldable pub ended : ℕ → ℕ → ℕ → ℕ
 ended m at n = max at (min (at + n) m)
+
+-- a buffer without lines yet
+abbrev pub lines_in : MutBor (List ℕ) → Lines
+lines_in bytes = record { bytes = bytes; end = 0 }
+
+-- the same buffer, with a text behind what stands in it
+unfoldable pub added : Lines → List ℕ → Lines
+added ls text =
+    record ls { bytes = record ls.bytes { now = written ls.bytes.now ls.end text }; end = ended (length ls.bytes.now) ls.end (length text) }
 
 -- ---- numbers
 

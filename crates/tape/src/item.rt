@@ -1,10 +1,13 @@
 // The items of a tape: little-endian 32-bit words taken apart.
+#![tactic(auto, unfolding(crate::specs::Item::word_at, crate::specs::Item::whole, crate::specs::Item::register_of, crate::specs::Item::signal_of, crate::specs::Item::hand_in_of, crate::specs::Item::item_by, crate::specs::Item::item_at, crate::specs::Item::takes, crate::specs::Item::key_at, queue::specs::Pool::piece))]
+
 ghost use Rattle.std.specs.Prelude.{◌≡◌, ◌+◌, ◌≤◌};
-ghost use Rattle.tape.specs.Item.{words_of, words_from, little_endian, word_at, class_of, whole, register_of, rtt_of, signal_of, key_words, hand_in_words, hand_in_of, item_of, item_at, takes, word_after, hash_of, key_at, body_at};
+ghost use Rattle.std.specs.Iterator.{YieldsFirst, item_count};
+ghost use Rattle.tape.specs.Item.{words_of, words_from, word_at, whole, register_of, rtt_of, signal_of, key_words, hand_in_words, hand_in_of, item_of, item_at, takes, hash_of, key_at, body_at, items_of, items_left};
 
 use config::config::Priority;
-use pacing::coalescing::InstanceKey;
-use pacing::pool;
+use queue::entry::InstanceKey;
+use queue::pool;
 
 // The bytes of a word.
 const WORD: usize = 4;
@@ -14,7 +17,7 @@ const KIND: u32 = 268435456;
 
 // An item of a tape, as its first word and those that belong to it say.
 // `Broken` is number 5: an unknown kind or class, an item cut short, or the end that is missing.
-#[derive(Clone, Copy)]
+#[derive(Clone, Copy, Debug, PartialEq, Eq)]
 pub enum Item {
     End,
     Broken,
@@ -41,62 +44,78 @@ pub enum Item {
     SetRate(u32),
 }
 
+// An item, and the index of its first word.
+#[derive(Clone, Copy, Debug, PartialEq, Eq)]
+pub struct Placed {
+    pub index: usize,
+    pub item: Item,
+}
+
+// What of a tape is still to be read: from a word on, or nothing where the tape has stopped.
+#[derive(Drop)]
+pub struct Items<'a> {
+    tape: &'a [u8],
+    next: Option<usize>,
+}
+
+impl<'a> Items<'a> {
+    // All items of a tape.
+    #[tactic(auto, using(crate::proofs::Items::items_first))]
+    pub fn new(tape: &'a [u8]) -> Items<'a>
+        ensures { items_left result ≡ items_of tape.now }
+    {
+        Items {
+            tape,
+            next: Some(0),
+        }
+    }
+}
+
+// One item after the other, up to the end, which is none itself, or to what is broken, which is the last.
+impl Iterator for Items<'_> {
+    type Item = Placed;
+
+    ghost next_gives = { YieldsFirst items_left };
+
+    ghost remaining = { item_count items_left };
+
+    #[tactic(auto, using(crate::proofs::Items::item_steps))]
+    fn next(&mut self) -> Option<Placed> {
+        let index = self.next?;
+        let item = item_at(self.tape, index);
+        self.next = None;
+        match item {
+            Item::End => return None,
+            Item::Broken => {}
+            _ => self.next = Some(index + words_taken(item)),
+        }
+        Some(Placed { index, item })
+    }
+}
+
 // The words of a tape of so many bytes; a last word short of 4 bytes counts.
 pub fn words_of(bytes: usize) -> usize
     ensures { result ≡ words_of bytes }
 {
-    if bytes % WORD == 0 {
-        bytes / WORD
-    } else {
-        bytes / WORD + 1
-    }
-}
-
-// The word behind an item whose first word is word k; k where the item is not whole.
-pub fn word_after(tape: &[u8], k: usize, item: Item) -> usize
-    ensures { result ≡ word_after tape.now k item }
-{
-    let n = words_taken(item);
-    if n <= words_from(tape, k) {
-        return k + n;
-    }
-    k
+    bytes.div_ceil(WORD)
 }
 
 // How many whole words there are from word k on.
 fn words_from(tape: &[u8], k: usize) -> usize
     ensures { result ≡ words_from tape.now k }
 {
-    let words = tape.len() / WORD;
-    if k < words { words - k } else { 0 }
-}
-
-fn little_endian(a: u8, b: u8, c: u8, d: u8) -> u32
-    ensures { result ≡ little_endian a b c d }
-{
-    a as u32 + 256 * (b as u32) + 65536 * (c as u32) + 16777216 * (d as u32)
+    (tape.len() / WORD).saturating_sub(k)
 }
 
 // The word so many past word k; 0 where it is not whole.
 fn word_at(tape: &[u8], k: usize, past: u8) -> u32
     ensures { result ≡ word_at tape.now (k + past) }
 {
-    if words_from(tape, k) <= past as usize {
+    if words_from(tape, k) <= usize::from(past) {
         return 0;
     }
-    let at = WORD * (k + past as usize);
-    little_endian(tape[at], tape[at + 1], tape[at + 2], tape[at + 3])
-}
-
-// The class of two bits that are not 3.
-fn class_of(bits: u32) -> Priority
-    ensures { result ≡ class_of bits }
-{
-    match bits {
-        0 => Priority::P0,
-        1 => Priority::P1,
-        _ => Priority::P2,
-    }
+    let at = WORD * (k + usize::from(past));
+    u32::from_le_bytes([tape[at], tape[at + 1], tape[at + 2], tape[at + 3]])
 }
 
 // An item of m words from word k on, broken where it is cut short.
@@ -113,13 +132,12 @@ fn whole(tape: &[u8], k: usize, m: usize, item: Item) -> Item
 fn register_of(value: u32) -> Item
     ensures { result ≡ register_of value }
 {
-    let bits = value % 4;
-    if bits == 3 {
-        return Item::Broken;
-    }
-    Item::Register {
-        class: class_of(bits),
-        id: value / 4,
+    match Priority::try_from((value % 4) as u8) {
+        Ok(class) => Item::Register {
+            class,
+            id: value / 4,
+        },
+        Err(_) => Item::Broken,
     }
 }
 
@@ -150,8 +168,7 @@ fn key_words(class: Priority) -> usize
     ensures upper_bound { result ≤ 4 }
 {
     match class {
-        Priority::P0 => 0,
-        Priority::P1 => 0,
+        Priority::P0 | Priority::P1 => 0,
         Priority::P2 => 4,
     }
 }
@@ -161,24 +178,24 @@ fn hand_in_words(class: Priority, length: u16) -> usize
     ensures value { result ≡ hand_in_words class length }
     ensures upper_bound { result ≤ 16389 }
 {
-    1 + key_words(class) + words_of(length as usize)
+    1 + key_words(class) + words_of(usize::from(length))
 }
 
 fn hand_in_of(tape: &[u8], k: usize, value: u32) -> Item
     ensures { result ≡ hand_in_of tape.now k value }
 {
-    let bits = value / 2048 % 4;
-    if bits == 3 {
-        return Item::Broken;
-    }
-    let class = class_of(bits);
     let length = (value % 2048) as u16;
-    let hand_in = Item::HandIn {
-        pacer: (value / 8192 % 4) as u8,
-        class,
-        length,
-    };
-    whole(tape, k, hand_in_words(class, length), hand_in)
+    match Priority::try_from((value / 2048 % 4) as u8) {
+        Ok(class) => {
+            let hand_in = Item::HandIn {
+                pacer: (value / 8192 % 4) as u8,
+                class,
+                length,
+            };
+            whole(tape, k, hand_in_words(class, length), hand_in)
+        }
+        Err(_) => Item::Broken,
+    }
 }
 
 // The item whose first word this is, by its kind.
@@ -200,7 +217,7 @@ fn item_of(tape: &[u8], k: usize, word: u32) -> Item
 }
 
 // The item whose first word is word k.
-pub fn item_at(tape: &[u8], k: usize) -> Item
+fn item_at(tape: &[u8], k: usize) -> Item
     ensures { result ≡ item_at tape.now k }
 {
     let item = item_of(tape, k, word_at(tape, k, 0));
@@ -208,17 +225,12 @@ pub fn item_at(tape: &[u8], k: usize) -> Item
 }
 
 // The words that belong to an item.
-pub fn words_taken(item: Item) -> usize
-    ensures value { result ≡ takes item }
-    ensures lower_bound { (1 ≤ result) × (result ≤ 16389) }
+fn words_taken(item: Item) -> usize
+    ensures { result ≡ takes item }
 {
     match item {
-        Item::Rtt { peer: _, bits: _ } => 2,
-        Item::HandIn {
-            pacer: _,
-            class,
-            length,
-        } => hand_in_words(class, length),
+        Item::Rtt { .. } => 2,
+        Item::HandIn { class, length, .. } => hand_in_words(class, length),
         _ => 1,
     }
 }
@@ -227,7 +239,7 @@ pub fn words_taken(item: Item) -> usize
 fn hash_of(low: u32, high: u32) -> u64
     ensures { result ≡ hash_of low high }
 {
-    low as u64 + 4294967296 * (high as u64)
+    u64::from(low) + 4294967296 * u64::from(high)
 }
 
 // The key of the hand-in whose first word is word k; P0 and P1 have none.
@@ -235,8 +247,7 @@ pub fn key_at(tape: &[u8], k: usize, class: Priority) -> InstanceKey
     ensures { result ≡ key_at tape.now k class }
 {
     match class {
-        Priority::P0 => InstanceKey::new(0, 0),
-        Priority::P1 => InstanceKey::new(0, 0),
+        Priority::P0 | Priority::P1 => InstanceKey::new(0, 0),
         Priority::P2 => InstanceKey::new(
             hash_of(word_at(tape, k, 1), word_at(tape, k, 2)),
             hash_of(word_at(tape, k, 3), word_at(tape, k, 4)),
@@ -252,5 +263,5 @@ pub fn body_at(tape: &[u8], k: usize, class: Priority, length: u16) -> &[u8]
     if words_from(tape, k) < ahead {
         return pool::shown(tape, 0, 0);
     }
-    pool::shown(tape, WORD * (k + ahead), length as usize)
+    pool::shown(tape, WORD * (k + ahead), usize::from(length))
 }

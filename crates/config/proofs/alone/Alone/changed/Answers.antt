@@ -1,0 +1,5 @@
+use Rattle.std.proofs.Common.{rules, refl}
+use Rattle.config.proofs.alone.Alone.changed.Goals as goal
+
+pub returns-in-Ok-clause-accepted : goal.returns-in-Ok-clause-accepted
+returns-in-Ok-clause-accepted g c = rw c.in-Ok.is (c.step-told.new.arg2, c.step-told.result, search rules, refl)

@@ -1,0 +1,6 @@
+pub mod Keys
+pub mod Pools
+pub mod Queues
+pub mod Rings
+pub mod Samples
+pub mod Windows
