@@ -1,5 +1,5 @@
 // A list of calls, packed into words, on what plays them; and the checksum of what they answer.
-use crate::call;
+use crate::call::{self, Call, Kind, Record, mix};
 use config::alone::Left;
 use config::answer::Numbered;
 use config::config::{CongestionConfig, Priority};
@@ -7,7 +7,6 @@ use pacing::send_action::{SendAction, sent_bytes};
 use queue::entry::InstanceKey;
 use queue::fate::Fate;
 use queue::pool;
-use queue::pool::Limits;
 
 // What plays the calls: pacers that are lent, or one that goes from call to call by value.
 pub trait Player: Sized {
@@ -31,26 +30,29 @@ pub trait Player: Sized {
 
 // The checksum of a list of calls.
 pub fn run<P: Player + Drop>(player: P, list: &[u64], pool: &mut [u8], bytes: &[u8]) -> u64 {
-    let limits = Limits::of(CongestionConfig::new());
+    let limits = pool::limits_of(CongestionConfig::default());
     let mut player = player;
     let mut time: u64 = 0;
     let mut sum: u64 = 0;
     for (k, word) in list.iter().enumerate() {
-        let word = *word;
-        time = call::time_of(word, time);
-        let i = call::pacer_of(word) % P::pacers().max(1);
-        if call::is_hand_in(word) {
-            let sample = pool::shown(bytes, call::start_of(k), call::length_of(word));
-            let (class, key) = (call::class_of(word), call::key_of(word));
-            let left = player.hand_in(time, pool, i, class, key, sample);
-            player = left.state;
-            sum = call::mix_answer(sum, left.answer.number());
-        } else {
-            let left = player.send(time, pool, i);
-            player = left.state;
-            sum = call::mix_answer(sum, left.answer.number());
-            let action = left.answer.unwrap_or(SendAction::Empty);
-            sum = call::mix_action(sum, action, sent_bytes(limits, i, action, pool));
+        let call = Call::from(*word);
+        time = time.saturating_add(call.later);
+        let i = call.pacer % P::pacers().max(1);
+        match call.kind {
+            Kind::HandIn => {
+                let Record { class, key, length } = Record::from(*word);
+                let sample = pool::shown(bytes, call::start_of(k), length);
+                let left = player.hand_in(time, pool, i, class, key, sample);
+                player = left.state;
+                sum = mix(sum, left.answer.number());
+            }
+            Kind::Send => {
+                let left = player.send(time, pool, i);
+                player = left.state;
+                sum = mix(sum, left.answer.number());
+                let action = left.answer.unwrap_or(SendAction::Empty);
+                sum = call::mix_action(sum, action, sent_bytes(limits, i, action, pool));
+            }
         }
     }
     sum

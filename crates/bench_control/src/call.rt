@@ -18,60 +18,73 @@ pub enum Kind {
     Nacks,
 }
 
-// A word has, from its low bits on: 4 bits for the kind, 6 for the writer or the peer, 30 for the amount and 24 for the
-// time by which the call is later than the one before it, in units of 16 nanoseconds. Every number of a kind from 7 on is NACKs.
-pub fn kind_of(word: u64) -> Kind {
-    match word % 16 {
-        0 => Kind::Tick,
-        1 => Kind::SetRate,
-        2 => Kind::Sample,
-        3 => Kind::Tos,
-        4 => Kind::Register,
-        5 => Kind::Eagain,
-        6 => Kind::Show,
-        _ => Kind::Nacks,
+// The kind of a number; every number from 7 on is NACKs.
+impl From<u64> for Kind {
+    fn from(number: u64) -> Kind {
+        match number {
+            0 => Kind::Tick,
+            1 => Kind::SetRate,
+            2 => Kind::Sample,
+            3 => Kind::Tos,
+            4 => Kind::Register,
+            5 => Kind::Eagain,
+            6 => Kind::Show,
+            _ => Kind::Nacks,
+        }
     }
 }
 
-// The writer or the peer of the call, one of 64.
-pub fn number_of(word: u64) -> u32 {
-    (word / 16 % 64) as u32
+// A word has, from its low bits on: 4 bits for the kind, 6 for the number, 30 for the amount and 24 for the time by which
+// the call is later than the one before it, in units of 16 nanoseconds.
+#[derive(Clone, Copy)]
+pub struct Call {
+    pub kind: Kind,
+    // The writer or the peer, one of 64.
+    pub number: u8,
+    // A rate or a count.
+    pub amount: u32,
+    // The nanoseconds after the call before it.
+    pub later: u64,
 }
 
-// A rate or a count.
-pub fn amount_of(word: u64) -> u32 {
-    (word / 1024 % 1073741824) as u32
+impl From<u64> for Call {
+    fn from(word: u64) -> Call {
+        Call {
+            kind: Kind::from(word % 16),
+            number: (word / 16 % 64) as u8,
+            amount: (word / 1024 % 1073741824) as u32,
+            later: word / 1099511627776 * 16,
+        }
+    }
 }
 
-// The class of a new writer; every number above 1 is P2.
-pub fn class_of(word: u64) -> Priority {
-    Priority::try_from((word / 1024 % 4) as u8).unwrap_or(Priority::P2)
-}
+// What calls read of the amount or of the number in place of it.
+impl Call {
+    // The class of a new writer; every number above 1 is P2.
+    pub fn class(self) -> Priority {
+        Priority::try_from((self.amount % 4) as u8).unwrap_or(Priority::P2)
+    }
 
-pub fn tos_of(word: u64) -> u8 {
-    (word / 1024 % 256) as u8
-}
+    // The TOS byte of a packet.
+    pub fn tos(self) -> u8 {
+        (self.amount % 256) as u8
+    }
 
-// A sample in milliseconds: sixteenths, below 4,096.
-pub fn sample_of(word: u64) -> f32 {
-    let sixteenths = (word / 1024 % 65536) as u16;
-    sixteenths as f32 * 0.0625
-}
+    // A sample in milliseconds: sixteenths, below 4,096.
+    pub fn sample(self) -> f32 {
+        let sixteenths = (self.amount % 65536) as u16;
+        sixteenths as f32 * 0.0625
+    }
 
-// The factor of a decrease: 64ths, from 0 to 63.
-pub fn factor_of(word: u64) -> f32 {
-    let parts = (word / 16 % 64) as u8;
-    parts as f32 * 0.015625
-}
-
-// The time of the call, after the one before it.
-pub fn time_of(word: u64, before: u64) -> u64 {
-    before.saturating_add(word / 1099511627776 * 16)
+    // The factor of a decrease: 64ths, from 0 to 63.
+    pub fn factor(self) -> f32 {
+        self.number as f32 * 0.015625
+    }
 }
 
 // The defaults, or other settings, with marks looked at; two, so that no setting is a constant to the compiler.
 pub fn settings(other: bool) -> CongestionConfig {
-    let config = CongestionConfig::new();
+    let config = CongestionConfig::default();
     let marked = CongestionConfig {
         ecn_mode: EcnMode::Opportunistic,
         ..config
@@ -105,36 +118,25 @@ fn other_than(config: CongestionConfig) -> CongestionConfig {
     }
 }
 
-// The checksum with a number of 32 bits more.
-pub fn mix_u32(sum: u64, x: u32) -> u64 {
-    mix(sum, u64::from(x))
-}
-
 // The checksum with a float more.
 pub fn mix_f32(sum: u64, x: f32) -> u64 {
-    mix_u32(sum, f32_to_bits_with_nan(x))
-}
-
-// The checksum with a flag more, such as a signal.
-pub fn mix_flag(sum: u64, flag: bool) -> u64 {
-    mix(sum, u64::from(flag))
+    mix(sum, f32_to_bits_with_nan(x))
 }
 
 // The checksum with the rate and the score that a tick left.
 pub fn mix_tick(sum: u64, core: &ControllerCore) -> u64 {
-    mix_f32(mix_u32(sum, core.rate()), core.scorer().score())
+    mix_f32(mix(sum, core.rate()), core.scorer().score())
 }
 
 // The checksum with a writer's update more.
 fn mix_update(sum: u64, row: &WriterInfo) -> u64 {
-    mix_u32(mix_u32(mix(sum, row.id), row.previous_bps), row.budget_bps)
+    mix(mix(mix(sum, row.id), row.previous_bps), row.budget_bps)
 }
 
 // The checksum with every writer's update.
 pub fn mix_updates(sum: u64, table: &WriterTable) -> u64 {
-    let mut total = sum;
-    for row in table.writers() {
-        total = mix_update(total, row);
-    }
-    total
+    table
+        .writers()
+        .iter()
+        .fold(sum, |sum, row| mix_update(sum, row))
 }

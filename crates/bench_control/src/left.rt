@@ -1,6 +1,6 @@
 // What a list leaves, joined to its checksum at the end: so the compiler can leave out no count.
-use crate::call::{mix_f32, mix_flag, mix_u32};
-use bench::call::{mix, mix_answer};
+use crate::call::mix_f32;
+use bench::call::mix;
 use control::budget_allocator::BudgetAllocator;
 use control::controller::ControllerCore;
 use control::rate_controller::RateController;
@@ -10,7 +10,7 @@ use signals::rtt_estimator::RttEstimator;
 
 // Whether a time is known, and the time or 0.
 fn mix_moment(sum: u64, moment: Option<u64>) -> u64 {
-    mix(mix_flag(sum, moment.is_some()), moment.unwrap_or(0))
+    mix(mix(sum, moment.is_some()), moment.unwrap_or(0))
 }
 
 pub fn mix_estimator(sum: u64, estimator: RttEstimator) -> u64 {
@@ -24,20 +24,20 @@ pub fn mix_processor(sum: u64, processor: EcnProcessor) -> u64 {
     let sum = mix(mix(sum, stats.packets_received), stats.ect0_received);
     let sum = mix(mix(sum, stats.ect1_received), stats.ce_received);
     let sum = mix(mix(sum, stats.not_ect_received), stats.ce_responded);
-    mix_u32(
-        mix_u32(sum, processor.ce_in_window()),
+    mix(
+        mix(sum, processor.ce_in_window()),
         processor.packets_in_window(),
     )
 }
 
 fn mix_phase(sum: u64, phase: Phase) -> u64 {
-    let sum = mix_moment(mix_answer(sum, u8::from(phase.state)), phase.cooldown_until);
+    let sum = mix_moment(mix(sum, u8::from(phase.state)), phase.cooldown_until);
     mix_moment(sum, phase.stable_since)
 }
 
 fn mix_pending(sum: u64, pending: PendingSignals) -> u64 {
-    let sum = mix_flag(mix_u32(sum, pending.eagain_count), pending.rtt_inflated);
-    mix_u32(mix_u32(sum, pending.nack_count), pending.loss_count)
+    let sum = mix(mix(sum, pending.eagain_count), pending.rtt_inflated);
+    mix(mix(sum, pending.nack_count), pending.loss_count)
 }
 
 fn mix_signals(sum: u64, signals: SignalCounts) -> u64 {
@@ -62,24 +62,21 @@ fn mix_rate_controller(sum: u64, controller: RateController) -> u64 {
     let sum = mix(mix(sum, controller.last_change()), metrics.increases);
     let sum = mix(mix(sum, metrics.decreases_soft), metrics.decreases_hard);
     let sum = mix(mix(sum, metrics.capacity_lost), metrics.capacity_gained);
-    mix_u32(mix_u32(sum, metrics.peak_rate), metrics.min_rate_reached)
+    mix(mix(sum, metrics.peak_rate), metrics.min_rate_reached)
 }
 
 pub fn mix_core(sum: u64, core: &ControllerCore) -> u64 {
     let metrics = core.metrics();
     let nacks = core.nacks();
     let sum = mix_rate_controller(mix_scorer(sum, core.scorer()), core.rate_controller());
-    let sum = mix_u32(mix_processor(sum, core.ecn()), metrics.current_rate_bps);
+    let sum = mix(mix_processor(sum, core.ecn()), metrics.current_rate_bps);
     let sum = mix(mix(sum, metrics.eagain_total), metrics.ecn_ce_received);
-    mix(
-        mix(mix_u32(sum, nacks.count), nacks.start),
-        core.last_tick(),
-    )
+    mix(mix(mix(sum, nacks.count), nacks.start), core.last_tick())
 }
 
 pub fn mix_allocator(sum: u64, allocator: &BudgetAllocator) -> u64 {
     let stats = allocator.stats();
-    let sum = mix(mix_u32(sum, allocator.global_budget()), stats.reallocations);
+    let sum = mix(mix(sum, allocator.global_budget()), stats.reallocations);
     mix(
         mix(sum, stats.writers_registered),
         stats.total_distributed_bps,

@@ -1,22 +1,23 @@
 // A list of calls on the parts of a controller: core, tracker and allocator are locals.
-use crate::call::{self, Kind};
+use crate::call::{self, Call, Kind};
 use crate::left;
+use bench::call::mix;
 use control::budget_allocator::BudgetAllocator;
 use control::controller::{ControllerConfig, ControllerCore};
 use signals::rtt_estimator::PeerRttTracker;
 
 // The checksum of a list of calls on a new controller's parts.
 pub fn run(list: &[u64], other: bool) -> u64 {
-    let config = ControllerConfig::from_config(call::settings(other));
+    let config = ControllerConfig::from(call::settings(other));
     let mut core = ControllerCore::new(config, 0);
     let mut tracker = PeerRttTracker::new(100.0);
-    let mut allocator = BudgetAllocator::new();
+    let mut allocator = BudgetAllocator::default();
     let mut time: u64 = 0;
     let mut sum: u64 = 0;
     for word in list {
-        let word = *word;
-        time = call::time_of(word, time);
-        match call::kind_of(word) {
+        let call = Call::from(*word);
+        time = time.saturating_add(call.later);
+        match call.kind {
             Kind::Tick => {
                 if core.tick(config, time, tracker.any_inflated()) {
                     allocator.reallocate(config.allocation, core.rate());
@@ -25,31 +26,30 @@ pub fn run(list: &[u64], other: bool) -> u64 {
                 sum = call::mix_tick(sum, &core);
             }
             Kind::SetRate => {
-                core.set_rate(config, time, call::amount_of(word));
-                allocator.reallocate(config.allocation, call::amount_of(word));
+                core.set_rate(config, time, call.amount);
+                allocator.reallocate(config.allocation, call.amount);
                 sum = call::mix_updates(sum, allocator.table());
             }
             Kind::Sample => {
-                tracker.update(time, call::number_of(word), call::sample_of(word));
+                tracker.update(time, call.number.into(), call.sample());
             }
             Kind::Show => {
-                let place = call::number_of(word) as usize;
-                sum = left::mix_estimator(sum, tracker.estimator_at(place));
+                sum = left::mix_estimator(sum, tracker.estimator_at(call.number.into()));
             }
             Kind::Register => {
-                allocator.register(call::number_of(word) as u64, call::class_of(word));
+                allocator.register(call.number.into(), call.class());
             }
             Kind::Tos => {
-                let signal = core.on_ecn_tos(config, call::tos_of(word));
-                sum = call::mix_flag(sum, signal);
+                let signal = core.on_ecn_tos(config, call.tos());
+                sum = mix(sum, signal);
             }
             Kind::Eagain => {
                 core.on_eagain(config);
-                sum = call::mix_flag(sum, false);
+                sum = mix(sum, false);
             }
             Kind::Nacks => {
-                core.on_nacks(config, call::amount_of(word));
-                sum = call::mix_flag(sum, false);
+                core.on_nacks(config, call.amount);
+                sum = mix(sum, false);
             }
         }
     }

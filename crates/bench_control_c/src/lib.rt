@@ -1,14 +1,18 @@
-// The functions of the crate bench_control under their names: a static library of its own, as bench_parts is.
+// The lists of the crate bench_control behind C functions: a static library of its own, as bench_parts is.
 #![tactic(auto)]
+
+use bench_control::parts;
+use bench_control::single::{self, Part};
 
 // The checksum of a list on the parts of a controller.
 #[unsafe(no_mangle)]
 pub extern "C" fn bench_control_parts(list: &[u64], other: bool) -> u64 {
-    bench_control::bench_control_parts(list, other)
+    parts::run(list, other)
 }
 
-// The checksum of a list on an estimator, a processor or decreases of a rate, by the part's number.
+// The checksum of a list on a part alone: 0 an estimator, 1 a processor, else decreases.
+// Stays: [1] the C interface: what calls it passes the part as a number, which is made an enum at once.
 #[unsafe(no_mangle)]
 pub extern "C" fn bench_control_single(list: &[u64], part: u8) -> u64 {
-    bench_control::bench_control_single(list, part)
+    single::run(list, Part::from(part))
 }

@@ -1,5 +1,6 @@
 // The same list of calls on one controller through its public calls, which take it by value and give it back.
-use bench_control::call::{self, Kind};
+use bench::call::mix;
+use bench_control::call::{self, Call, Kind};
 use bench_control::left;
 use config::alone::{Alone, Left};
 use control::controller::CongestionController;
@@ -18,28 +19,27 @@ fn silent(left: Left<Alone<ConfiguredCongestion>, ()>) -> Left<Alone<ConfiguredC
 fn called(
     alone: Alone<ConfiguredCongestion>,
     time: u64,
-    word: u64,
+    call: Call,
 ) -> Left<Alone<ConfiguredCongestion>, bool> {
-    let number = call::number_of(word);
-    let amount = call::amount_of(word);
-    match call::kind_of(word) {
+    let number = call.number;
+    match call.kind {
         Kind::Tick => controller_alone::tick(alone, time),
-        Kind::SetRate => controller_alone::set_rate(alone, time, amount),
+        Kind::SetRate => controller_alone::set_rate(alone, time, call.amount),
         Kind::Sample => {
-            let sample = call::sample_of(word);
-            silent(controller_alone::on_rtt_sample(alone, time, number, sample))
+            let peer = number.into();
+            silent(controller_alone::on_rtt_sample(alone, time, peer, call.sample()))
         }
-        Kind::Tos => controller_alone::on_ecn_tos(alone, call::tos_of(word)),
+        Kind::Tos => controller_alone::on_ecn_tos(alone, call.tos()),
         Kind::Register => {
-            let class = call::class_of(word);
-            silent(controller_alone::register_writer(alone, number as u64, class))
+            let id = number.into();
+            silent(controller_alone::register_writer(alone, id, call.class()))
         }
         Kind::Eagain => silent(controller_alone::on_eagain(alone)),
         Kind::Show => Left {
             state: alone,
             answer: Ok(false),
         },
-        Kind::Nacks => silent(controller_alone::on_nacks(alone, amount)),
+        Kind::Nacks => silent(controller_alone::on_nacks(alone, call.amount)),
     }
 }
 
@@ -53,16 +53,16 @@ fn mix_told(sum: u64, told: bool, controller: &CongestionController) -> u64 {
 }
 
 // The checksum with what a call answered and left, by its kind.
-fn mix_left(sum: u64, word: u64, told: bool, controller: &CongestionController) -> u64 {
-    match call::kind_of(word) {
+fn mix_left(sum: u64, call: Call, told: bool, controller: &CongestionController) -> u64 {
+    match call.kind {
         Kind::Tick => call::mix_tick(mix_told(sum, told, controller), &controller.core()),
         Kind::SetRate => mix_told(sum, told, controller),
         Kind::Sample | Kind::Register => sum,
         Kind::Show => {
-            let place = call::number_of(word) as usize;
+            let place = call.number.into();
             left::mix_estimator(sum, controller.tracker().estimator_at(place))
         }
-        Kind::Tos | Kind::Eagain | Kind::Nacks => call::mix_flag(sum, told),
+        Kind::Tos | Kind::Eagain | Kind::Nacks => mix(sum, told),
     }
 }
 
@@ -74,11 +74,12 @@ pub fn run(list: &[u64], other: bool) -> u64 {
     let mut time: u64 = 0;
     let mut sum: u64 = 0;
     for word in list {
-        time = call::time_of(*word, time);
-        let left = called(alone, time, *word);
+        let call = Call::from(*word);
+        time = time.saturating_add(call.later);
+        let left = called(alone, time, call);
         alone = left.state;
         let told = left.answer == Ok(true);
-        sum = mix_left(sum, *word, told, &alone.inner.controller);
+        sum = mix_left(sum, call, told, &alone.inner.controller);
     }
     let controller = &alone.inner.controller;
     left::mix_core(

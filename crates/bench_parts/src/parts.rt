@@ -10,6 +10,7 @@ use pacing::writer_pacer::WriterPacer;
 use pacing::{send_action, writer_pacer_alone};
 use queue::entry::InstanceKey;
 use queue::fate::Fate;
+use queue::pool;
 use queue::pool::Limits;
 
 type Pacer = WriterPacer<128, 512, 128>;
@@ -24,10 +25,11 @@ struct Four {
 impl Four {
     // Four new pacers of one rate.
     fn new(rate_bps: u32) -> Option<Four> {
-        let limits = Limits::of(CongestionConfig::new());
+        let limits = pool::limits_of(CongestionConfig::default());
         Some(Four {
             ledger: Ledger::new(0),
             limits,
+            // Stays: [3] each may be turned down, and `array::from_fn` takes no step that may fail.
             pacers: [
                 Pacer::new(0, limits, rate_bps)?,
                 Pacer::new(0, limits, rate_bps)?,
@@ -39,7 +41,7 @@ impl Four {
 
     // The slots that a pool of four pacers has.
     fn slots(&self) -> usize {
-        self.limits.slots() * 4
+        pool::slots(self.limits) * 4
     }
 
     // A checked hand-in to pacer i.

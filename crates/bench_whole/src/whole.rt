@@ -1,23 +1,22 @@
 // The same list of calls on one pacer through its public calls, which take it by value and give it back.
 use bench::player;
 use bench::player::Player;
-use config::alone::Left;
+use config::alone::{Alone, Left};
 use config::config::{CongestionConfig, Priority};
 use pacing::send_action::SendAction;
-use pacing::writer_pacer_alone::WriterPacerAlone;
+use pacing::writer_pacer_alone;
+use pacing::writer_pacer_alone::ConfiguredPacer;
 use queue::entry::InstanceKey;
 use queue::fate::Fate;
 
-// One pacer, moved from call to call.
+// One pacer, moved from call to call. A type of its own, since the trait is another crate's.
 #[derive(Drop)]
-struct One {
-    alone: WriterPacerAlone,
-}
+struct One(Alone<ConfiguredPacer>);
 
 impl One {
-    fn left<T>(left: Left<WriterPacerAlone, T>) -> Left<One, T> {
+    fn left<T>(left: Left<Alone<ConfiguredPacer>, T>) -> Left<One, T> {
         Left {
-            state: One { alone: left.state },
+            state: One(left.state),
             answer: left.answer,
         }
     }
@@ -38,21 +37,25 @@ impl Player for One {
         key: InstanceKey,
         sample: &[u8],
     ) -> Left<Self, Fate> {
+        let One(alone) = self;
         One::left(match class {
-            Priority::P0 | Priority::P1 => self.alone.enqueue(time, pool, class, sample),
-            Priority::P2 => self.alone.enqueue_p2_keyed(time, pool, key, sample),
+            Priority::P0 | Priority::P1 => {
+                writer_pacer_alone::enqueue(alone, time, pool, class, sample)
+            }
+            Priority::P2 => { writer_pacer_alone::enqueue_p2_keyed(alone, time, pool, key, sample) }
         })
     }
 
     fn send(self, time: u64, pool: &[u8], _i: u8) -> Left<Self, SendAction> {
-        One::left(self.alone.try_send(time, pool))
+        let One(alone) = self;
+        One::left(writer_pacer_alone::try_send(alone, time, pool))
     }
 }
 
 // The checksum of a list of calls on one new pacer, 0 where no pacer has the rate; the pacer numbers of the list are not read.
 pub fn run(list: &[u64], pool: &mut [u8], bytes: &[u8], rate_bps: u32) -> u64 {
-    match WriterPacerAlone::with_rate(0, CongestionConfig::new(), rate_bps) {
-        Ok(alone) => player::run(One { alone }, list, pool, bytes),
+    match writer_pacer_alone::with_rate(0, CongestionConfig::default(), rate_bps) {
+        Ok(alone) => player::run(One(alone), list, pool, bytes),
         Err(_) => 0,
     }
 }

@@ -1,4 +1,5 @@
 -- What a function tells, by its checks' verdict and by the number of that. Assumes nothing.
+-- Stays: the two equations that the three C functions cite (`using`); std has none of verdicts and answer numbers.
 use Rattle.std.proofs.Common.{◌≡◌, ℕ, List, Result, Ok, Err, refl, ne_eqb}
 use Rattle.config.specs.Refusal.{number_of, none_number, result_number}
 use Rattle.config.specs.declared.refusal.Refusal.{Refusal}

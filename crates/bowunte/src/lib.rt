@@ -58,16 +58,6 @@ fn rate_out(rate: u32, least_rate: u32) -> bool
     least_rate < 1 || rate < least_rate || LARGEST_RATE < rate
 }
 
-// The checks of a decrease: 2, 6 and 8.
-#[tactic(auto, unfolding(config::specs::Refusal::verdict_of))]
-fn check_decrease(rate: u32, factor: f32, least_rate: u32, room: usize) -> Result<(), Refusal>
-    ensures { result ≡ verdict_of (decrease_checks rate factor least_rate room) }
-{
-    Refusal::SettingsBeyond.when(factor_out(factor))?;
-    Refusal::RateBeyond.when(rate_out(rate, least_rate))?;
-    check_result(room)
-}
-
 fn hash(bytes: &[u8], room: usize) -> Result<u64, Refusal>
     ensures { result ≡ told_or (verdict_of (result_checks room)) (fnv1a bytes.now) }
 {
@@ -75,10 +65,14 @@ fn hash(bytes: &[u8], room: usize) -> Result<u64, Refusal>
     Ok(hash_bytes(bytes))
 }
 
+// The checks of a decrease are 2, 6 and 8.
+#[tactic(auto, unfolding(config::specs::Refusal::verdict_of))]
 fn decreased_rate(rate: u32, factor: f32, least_rate: u32, room: usize) -> Result<u64, Refusal>
     ensures { result ≡ told_or (verdict_of (decrease_checks rate factor least_rate room)) (decreased rate factor least_rate) }
 {
-    check_decrease(rate, factor, least_rate, room)?;
+    Refusal::SettingsBeyond.when(factor_out(factor))?;
+    Refusal::RateBeyond.when(rate_out(rate, least_rate))?;
+    check_result(room)?;
     Ok(u64::from(decrease(rate, factor, least_rate)))
 }
 
@@ -91,6 +85,7 @@ fn run_tape(bytes: &[u8], lines: &mut [u8], room: usize) -> Result<u64, Refusal>
     tape::run::run(bytes, lines)
 }
 
+// Stays: [1] the C interface: bowunte_c hands the number on to C.
 // The FNV-1a hash, 64 bits, of the bytes; 8 where `out` is shorter than 8 bytes.
 #[tactic(auto, using(crate::proofs::Results::told_number_is, crate::proofs::Results::told_left_is), unfolding(crate::specs::Doors::hash_answer))]
 pub fn bowunte_key_hash(bytes: &[u8], out: &mut [u8]) -> u32
@@ -100,6 +95,7 @@ pub fn bowunte_key_hash(bytes: &[u8], out: &mut [u8]) -> u32
     tell(hash(bytes, out.len()), out)
 }
 
+// Stays: [1] the C interface: bowunte_c hands the number on to C.
 // A rate after a decrease by a factor, not below the least rate; 2, 6 or 8 where it is turned down.
 #[tactic(auto, using(crate::proofs::Results::told_number_is, crate::proofs::Results::told_left_is), unfolding(crate::specs::Doors::decrease_answer))]
 pub fn bowunte_rate_decrease(rate: u32, factor: f32, least_rate: u32, out: &mut [u8]) -> u32
@@ -109,6 +105,7 @@ pub fn bowunte_rate_decrease(rate: u32, factor: f32, least_rate: u32, out: &mut 
     tell(decreased_rate(rate, factor, least_rate, out.len()), out)
 }
 
+// Stays: [1] the C interface: bowunte_c hands the number on to C.
 // The lines of a tape, and their length; 8 where `lines` is shorter than 24 bytes and 192 for each word, or `out` than 8.
 #[tactic(auto, using(crate::proofs::Results::told_number_is, crate::proofs::Results::told_left_is), unfolding(crate::specs::Doors::tape_answer))]
 pub fn bowunte_tape_run(bytes: &[u8], lines: &mut [u8], out: &mut [u8]) -> u32

@@ -7,6 +7,7 @@ ghost use Rattle.control.specs.RateController.{decreased};
 ghost use Rattle.tape.specs.Run.{tape_text};
 ghost use Rattle.bowunte.specs.Doors.{hash_answer, decrease_answer, tape_answer, out_left, lines_left_by};
 
+// Stays: [1] the C interface: C gets the answer as a number.
 // The FNV-1a hash, 64 bits, of the bytes; 8 where `out` is shorter than 8 bytes.
 #[unsafe(no_mangle)]
 pub extern "C" fn bowunte_key_hash(bytes: &[u8], out: &mut [u8]) -> u32
@@ -16,6 +17,7 @@ pub extern "C" fn bowunte_key_hash(bytes: &[u8], out: &mut [u8]) -> u32
     bowunte::bowunte_key_hash(bytes, out)
 }
 
+// Stays: [1] the C interface: C gets the answer as a number.
 // A rate after a decrease by a factor, not below the least rate; 2, 6 or 8 where it is turned down.
 #[unsafe(no_mangle)]
 pub extern "C" fn bowunte_rate_decrease(
@@ -30,6 +32,7 @@ pub extern "C" fn bowunte_rate_decrease(
     bowunte::bowunte_rate_decrease(rate, factor, least_rate, out)
 }
 
+// Stays: [1] the C interface: C gets the answer as a number.
 // The lines of a tape, and their length; 8 where `lines` is shorter than 24 bytes and 192 for each word, or `out` than 8.
 #[unsafe(no_mangle)]
 pub extern "C" fn bowunte_tape_run(bytes: &[u8], lines: &mut [u8], out: &mut [u8]) -> u32

@@ -7,7 +7,7 @@ use crate::ledger::Ledger;
 use crate::refusal::Refusal;
 
 // A module's state, and the count and the last time of the calls on it.
-#[derive(Clone, Copy, Debug, PartialEq)]
+#[derive(Clone, Copy, Debug, PartialEq, Drop)]
 pub struct Alone<M> {
     pub ledger: Ledger,
     pub inner: M,
@@ -20,7 +20,7 @@ pub struct Left<S, T> {
     pub answer: Result<T, Refusal>,
 }
 
-impl<M: Copy> Alone<M> {
+impl<M: Drop> Alone<M> {
     // A module with no call yet; the time of its making is its first last time.
     pub fn new(time: u64, inner: M) -> Alone<M>
         ensures { result ≡ begun time inner }

@@ -117,11 +117,11 @@ pub struct CongestionConfig {
     pub ecn_mode: EcnMode,
 }
 
-impl CongestionConfig {
-    // The Rust's defaults: `CongestionConfig::default()`.
-    pub fn new() -> CongestionConfig
-        ensures { result ≡ defaults }
-    {
+// The Rust's defaults.
+impl Default for CongestionConfig {
+    ghost is_default = { λ config. config ≡ defaults };
+
+    fn default() -> CongestionConfig {
         CongestionConfig {
             enabled: true,
             min_rate_bps: 10000,
@@ -150,14 +150,17 @@ impl CongestionConfig {
             ecn_mode: EcnMode::Off,
         }
     }
+}
 
+impl CongestionConfig {
     // The defaults with congestion control off.
+    // Stays: [4] the Rust's call of this name; it can't be the type's `Default`, which is the settings with control on.
     pub fn disabled() -> CongestionConfig
         ensures { result ≡ without_control }
     {
         CongestionConfig {
             enabled: false,
-            ..CongestionConfig::new()
+            ..CongestionConfig::default()
         }
     }
 
@@ -224,15 +227,6 @@ impl CongestionConfig {
     }
 }
 
-// The Rust's defaults.
-impl Default for CongestionConfig {
-    ghost is_default = { λ config. config ≡ defaults };
-
-    fn default() -> CongestionConfig {
-        CongestionConfig::new()
-    }
-}
-
 // Whether a factor that is given to a call lies outside (0, 1]; a NaN does.
 #[tactic(auto, unfolding(crate::specs::Config::factor_out))]
 pub fn factor_out(factor: f32) -> bool
@@ -241,9 +235,8 @@ pub fn factor_out(factor: f32) -> bool
     !(factor > 0.0 && factor <= 1.0)
 }
 
-// Stays: three tests of a range, which differ in their comparisons alone: one with flags for its ends would be longer, and std's `contains` is
-// false at a NaN, which has to pass.
 // Whether a factor lies outside (0, 1].
+// Stays: [2] these three tests differ in two comparisons: flags for them would be longer, and std's `contains` is false at a NaN, which has to pass.
 #[tactic(auto, unfolding(crate::specs::Config::not_in_open_closed))]
 fn not_in_open_closed(x: f32) -> bool
     ensures { result ≡ not_in_open_closed x }

@@ -66,6 +66,7 @@ impl Ledger {
     }
 
     // One accepted call more.
+    // Stays: [2] its twins count in fields of other structs, and what they share is one call of std's `saturating_add`.
     pub fn counted(self) -> Ledger
         ensures { result ≡ counted self }
     {

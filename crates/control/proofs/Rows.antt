@@ -1,4 +1,5 @@
 -- Laws of rows: one is put in, or taken out. Assumes nothing.
+-- Stays: what `put_row` and `drop_row` cite, and Writers beside this; std has none of `copy_within` with a row put behind it.
 use Rattle.std.proofs.Common.{◌≡◌, ℕ, zero, suc, ◌+◌, ◌-◌, ◌<◌, ◌≤◌, min, max, List, [], ◌∷◌, ◌++◌, set, take, drop, length, refl, ap, sym, arith}
 use Rattle.std.specs.List.{copy_within}
 use Rattle.control.specs.BudgetAllocator.{lacking, blank_writer, taken_of, table_of, with_row, without_row}
@@ -52,10 +53,10 @@ rows_moved_up (x ∷ xs) (suc k) m (suc p) c e size =
     ap (λ (r : List _). x ∷ r) (rows_moved_up xs k m p c (omega (arith, e)) (omega (arith, size)))
 
 pub row_dropped : (t : WriterTable) (k : ℕ) → length t.rows ≡ 64 → k < 64 →
-    table_of (set (copy_within t.rows (k + 1) 64 k) 63 blank_writer) t.count ≡ without_row t k
+    table_of (set (copy_within t.rows (k + 1) (length t.rows) k) 63 blank_writer) t.count ≡ without_row t k
 unfolding without_row
 row_dropped t k size lt =
     let at : k + 1 ≡ suc k = omega arith in
     let end : k + (64 - (k + 1)) ≡ 63 = omega (arith, lt) in
     let out : min k 64 ≡ k = omega (arith, lt) in
-    rw (end, at, out) (ap (λ (rows : List WriterInfo). table_of rows t.count) (rows_moved_up t.rows k (64 - suc k) 63 blank_writer (omega (arith, lt)) (omega (arith, size))))
+    rw (size, end, at, out) (ap (λ (rows : List WriterInfo). table_of rows t.count) (rows_moved_up t.rows k (64 - suc k) 63 blank_writer (omega (arith, lt)) (omega (arith, size))))

@@ -1,5 +1,6 @@
 -- The list of the writers: what registering, unregistering and reallocating do to it, and that it is by class and then by id, no id twice,
 -- after every list of calls. Assumes nothing.
+-- Stays: the laws of the table that docs/ name, some of which `guarantees` cites too, and what they stand on; std has none of lists in such an order.
 use Rattle.std.proofs.Common.{◌≡◌, ◌≢◌, ℕ, zero, suc, ◌+◌, ◌≤◌, ◌<◌, min, max, Bool, true, false, List, [], ◌∷◌, ◌++◌, map, eqb, Float, length, take, drop, length-append, refl, sym, ap, ap₂, subst, ◌∙◌, arith}
 use Rattle.std.proofs.lemmas.Grind.{common_steps}
 use Rattle.std.proofs.lemmas.List.{length-replicate, take-append-le}
@@ -27,6 +28,7 @@ pub before_other : (a b : WriterInfo) → comes_before a b ≡ false → a.id �
 unfolding comes_before
 before_other a b p ne = grind arith
 
+-- Stays: `sorted_once` stands on it.
 pub before_self : (a : WriterInfo) → comes_before a a ≡ true → ⊥
 unfolding comes_before
 before_self a p = grind arith
@@ -198,6 +200,7 @@ registered_writers a id class weight size room =
     ∙ ap (inserted (new_writer id class weight)) (writers-without a.table id size)
 
 -- a writer unregistered: its id is taken out
+-- Stays: docs/GUARANTEES.md names it.
 pub unregistered_writers : (a : BudgetAllocator) (id : ℕ) → length a.table.rows ≡ 64 →
     writers_of (unregistered a id).0.table ≡ removed id (writers_of a.table)
 unregistered_writers a id size = ap writers_of (unregistered-table a id) ∙ writers-without a.table id size
@@ -289,20 +292,24 @@ in_order calls =
 
 -- ---- the order of a list decides nothing else
 
+-- Stays: `sorted_once` stands on it.
 leads_member : (w x : WriterInfo) (ws : List WriterInfo) → Leads w ws → IsOrdered ws → Memᴰ x ws → comes_before w x ≡ true
 leads_member w x [] h ok m = absurd (Memᴰ.not-nil m)
 leads_member w x (y ∷ ys) h ok m = grind (arith, Memᴰ.cases_cons m, before_trans w y x, leads_member y x ys ok.0 ok.1)
 
 -- what lies behind the first of one list lies behind the first of the other
+-- Stays: `sorted_once` stands on it.
 behind-first : (w x y : WriterInfo) (xs ys : List WriterInfo) → x ≡ y → IsOrdered (x ∷ xs) → Memᴰ w xs → Memᴰ w (y ∷ ys) → Memᴰ w ys
 behind-first w x y xs ys e ok m n = grind (arith, e, Memᴰ.cases_cons n, leads_member x w xs ok.0 ok.1 m, before_self x)
 
+-- Stays: `sorted_once` stands on it.
 same_first :
     (x y : WriterInfo) (xs ys : List WriterInfo) → IsOrdered (x ∷ xs) → IsOrdered (y ∷ ys) → Memᴰ x (y ∷ ys) → Memᴰ y (x ∷ xs) → x ≡ y
 same_first x y xs ys p q m n =
     grind (arith, Memᴰ.cases_cons m, Memᴰ.cases_cons n, leads_member x y xs p.0 p.1, leads_member y x ys q.0 q.1, before_trans x y x, before_self x)
 
 -- two lists in order with the same writers are the same list
+-- Stays: docs/GUARANTEES.md names it.
 pub sorted_once : (xs ys : List WriterInfo) → IsOrdered xs → IsOrdered ys → SameWriters xs ys → xs ≡ ys
 sorted_once [] [] p q same = refl
 sorted_once [] (y ∷ ys) p q same = absurd (Memᴰ.not-nil ((same y).1 (Memᴰ.head refl)))
@@ -317,10 +324,12 @@ sorted_once (x ∷ xs) (y ∷ ys) p q same =
     )))
 
 -- the same writers in tables in order are the same list
+-- Stays: `same_allotment` stands on it.
 pub same_writers : (t u : WriterTable) → IsInOrder t → IsInOrder u → SameWriters (writers_of t) (writers_of u) → writers_of t ≡ writers_of u
 same_writers t u p q same = sorted_once (writers_of t) (writers_of u) p.ordered q.ordered same
 
 -- so what each gets depends on which writers the tables hold, and not on the order in which they came
+-- Stays: docs/GUARANTEES.md names it.
 pub same_allotment : (a b : BudgetAllocator) (c : AllocationConfig) (rate : ℕ) → IsInOrder a.table → IsInOrder b.table →
     SameWriters (writers_of a.table) (writers_of b.table) →
     writers_of (reallocated a c rate).table ≡ writers_of (reallocated b c rate).table

@@ -26,7 +26,7 @@ action_number Increase = 1
 action_number DecreaseSoft = 2
 action_number DecreaseHard = 3
 
--- a small number of the settings as f32
+-- a number as f32, the nearest
 abbrev as_float : ℕ → Float
 as_float n = of_int binary32 (pos n)
 
@@ -60,7 +60,7 @@ no_pending = pending_of 0 false 0 0
 unfoldable pub added_if : Bool → Float → Float → Float
 added_if counts sum term = cond counts (add binary32 sum term) sum
 
--- a loss adds 5, all of them at most 30
+-- losses add 5 each, and at most 30 together
 abbrev pub loss_sum : Float → Float
 loss_sum x = cond (lt x (of_bits binary32 0x41f0_0000)) x (of_bits binary32 0x41f0_0000)
 

@@ -3,7 +3,7 @@
 
 ghost use Rattle.std.specs.Prelude.{◌≡◌, ◌≤◌, ◌<◌};
 ghost use Rattle.config.specs.PerClass.{value_at};
-ghost use Rattle.control.specs.BudgetAllocator.{allocation_config_of, blank_writer, new_writer, comes_before, taken_of, place_of, place_for, with_row, without_row, new_table, writers_of, entered, is_known, budget_of, without, full_for, writer_at, no_weights, weighed, weights_from, share_of, reserve_of, split_of, urgent_part, left_from, shares_of, budget_for, with_budget, allotted_table, distributed_from, new_allocator, one, registered, unregistered, reallocated};
+ghost use Rattle.control.specs.BudgetAllocator.{allocation_config_of, comes_before, taken_of, place_of, place_for, with_row, without_row, new_table, writers_of, entered, is_known, budget_of, without, full_for, writer_at, no_weights, weighed, weights_from, share_of, reserve_of, split_of, urgent_part, left_from, shares_of, budget_for, with_budget, allotted_table, distributed_from, one, registered, unregistered, reallocated};
 
 use config::config::{CongestionConfig, Priority};
 use config::per_class::PerClass;
@@ -22,10 +22,10 @@ pub struct AllocationConfig {
     pub p0_min_bps: u32,
 }
 
-impl AllocationConfig {
-    pub fn from_config(config: CongestionConfig) -> AllocationConfig
-        ensures { result ≡ allocation_config_of config }
-    {
+impl From<CongestionConfig> for AllocationConfig {
+    ghost from_gives = { λ config allocation. allocation ≡ allocation_config_of config };
+
+    fn from(config: CongestionConfig) -> AllocationConfig {
         AllocationConfig {
             p0_min_share: config.p0_min_share,
             p0_min_bps: config.p0_min_bps,
@@ -43,34 +43,18 @@ pub struct WriterInfo {
     pub previous_bps: u32,
 }
 
+// A row that no writer has.
+const BLANK: WriterInfo = WriterInfo {
+    id: 0,
+    priority: Priority::P0,
+    weight: 0.0,
+    budget_bps: 0,
+    previous_bps: 0,
+};
+
 impl WriterInfo {
-    // Weights below 0.1 count as 0.1.
-    fn with_weight(id: u64, priority: Priority, weight: f32) -> WriterInfo
-        ensures { result ≡ new_writer id priority weight }
-    {
-        WriterInfo {
-            id,
-            priority,
-            weight: max_f32(weight, 0.1),
-            budget_bps: 0,
-            previous_bps: 0,
-        }
-    }
-
-    // A row that no writer has.
-    fn blank() -> WriterInfo
-        ensures { result ≡ blank_writer }
-    {
-        WriterInfo {
-            id: 0,
-            priority: Priority::P0,
-            weight: 0.0,
-            budget_bps: 0,
-            previous_bps: 0,
-        }
-    }
-
     // By class, then by id.
+    // Stays: [4] an order by two fields of five: `PartialOrd` would have to agree with the derived `==`, which compares all.
     fn comes_before(&self, other: &WriterInfo) -> bool
         ensures { result ≡ comes_before self.now other.now }
     {
@@ -108,30 +92,34 @@ impl WriterInfo {
 }
 
 // How many rows are taken: the count, held to the table's size.
+// Stays: [2] a line over the size of its own table; the peers' is another's, and one for both would take the size along.
 fn taken(count: u16) -> usize
     ensures { result ≡ taken_of count }
 {
     usize::from(count).min(MOST_WRITERS)
 }
 
-// Writers by class and then by id, from row 0. Stays: an array and a count. A controller is taken and given back by value, and so is Copy, which
-// the library's vector of fixed room is not.
+// Writers by class and then by id, from row 0.
+// Stays: [6] an array and a count: `rows` shows all 64 rows, blank ones too, and the library's vector of fixed room is not Copy and has no rows beyond its length.
 #[derive(Clone, Copy, Debug, PartialEq)]
 pub struct WriterTable {
     pub(crate) rows: [WriterInfo; 64],
     pub(crate) count: u16,
 }
 
-impl WriterTable {
-    pub(crate) fn new() -> WriterTable
-        ensures { result ≡ new_table }
-    {
+// No writers.
+impl Default for WriterTable {
+    ghost is_default = { λ table. table ≡ new_table };
+
+    fn default() -> WriterTable {
         WriterTable {
-            rows: [WriterInfo::blank(); 64],
+            rows: [BLANK; 64],
             count: 0,
         }
     }
+}
 
+impl WriterTable {
     // The rows that are taken.
     pub fn writers(&self) -> &[WriterInfo]
         ensures { result.now ≡ writers_of self.now }
@@ -140,6 +128,7 @@ impl WriterTable {
     }
 
     // The row of a writer, or the number of rows taken where it is not there.
+    // Stays: [1] its definition (`place_of`), under theorems that pages name, gives the number of rows taken where the writer is not there.
     fn place_of(&self, id: u64) -> usize
         ensures { result ≡ place_of self.now id }
     {
@@ -161,6 +150,7 @@ impl WriterTable {
     }
 
     // A writer takes a row; that row and those after it move on by one, up to the first free one.
+    #[tactic(auto, using(crate::proofs::Rows::row_put, std::proofs::lemmas::Grind::common_steps))]
     fn put_row(&mut self, place: usize, writer: WriterInfo)
         requires within { place ≤ taken_of self.old.count }
         requires room { taken_of self.old.count < 64 }
@@ -172,12 +162,13 @@ impl WriterTable {
     }
 
     // A row is given up; those after it move up by one, and a blank row comes last.
+    #[tactic(auto, using(crate::proofs::Rows::row_dropped, std::proofs::lemmas::Grind::common_steps))]
     fn drop_row(&mut self, place: usize)
         requires { place < 64 }
         ensures { self.new ≡ without_row self.old place }
     {
         self.rows.copy_within(place + 1.., place);
-        self.rows[MOST_WRITERS - 1] = WriterInfo::blank();
+        self.rows[MOST_WRITERS - 1] = BLANK;
     }
 
     // A new writer takes its row; a full table takes none.
@@ -246,7 +237,7 @@ impl WriterTable {
         if place < taken(self.count) {
             self.rows[place]
         } else {
-            WriterInfo::blank()
+            BLANK
         }
     }
 
@@ -254,11 +245,7 @@ impl WriterTable {
     fn weights(&self) -> PerClass<f32>
         ensures { result ≡ weights_from no_weights (writers_of self.now) }
     {
-        let mut sums = PerClass {
-            p0: 0.0,
-            p1: 0.0,
-            p2: 0.0,
-        };
+        let mut sums = PerClass::default();
         for row in self.writers() {
             let total = sums.at(row.priority) + row.weight;
             sums.set(row.priority, total);
@@ -296,6 +283,7 @@ impl WriterTable {
     }
 
     // Every writer gets its budget.
+    #[tactic(auto, using(std::proofs::lemmas::List::Edits::map_over_more, std::proofs::lemmas::Grind::common_steps), unfolding(crate::specs::BudgetAllocator::allotted_table))]
     fn allot(&mut self, shares: Shares)
         ensures { self.new ≡ allotted_table self.old shares }
     {
@@ -345,7 +333,7 @@ fn split(left: u32) -> u32
     scaled_u32(left, 0.7)
 }
 
-#[derive(Clone, Copy, Debug, PartialEq, Eq)]
+#[derive(Clone, Copy, Debug, PartialEq, Eq, Default)]
 pub struct AllocationStats {
     pub reallocations: u64,
     pub writers_registered: u64,
@@ -353,7 +341,7 @@ pub struct AllocationStats {
     pub total_distributed_bps: u64,
 }
 
-#[derive(Clone, Copy, Debug, PartialEq)]
+#[derive(Clone, Copy, Debug, PartialEq, Default)]
 pub struct BudgetAllocator {
     pub(crate) table: WriterTable,
     pub(crate) global_budget_bps: u32,
@@ -362,21 +350,6 @@ pub struct BudgetAllocator {
 
 // The steps: total, with no refusals.
 impl BudgetAllocator {
-    pub fn new() -> BudgetAllocator
-        ensures { result ≡ new_allocator }
-    {
-        BudgetAllocator {
-            table: WriterTable::new(),
-            global_budget_bps: 0,
-            stats: AllocationStats {
-                reallocations: 0,
-                writers_registered: 0,
-                writers_unregistered: 0,
-                total_distributed_bps: 0,
-            },
-        }
-    }
-
     // A writer of weight 1.
     pub fn register(&mut self, id: u64, priority: Priority)
         ensures { self.new ≡ registered self.old id priority one }
@@ -384,13 +357,17 @@ impl BudgetAllocator {
         self.register_weighted(id, priority, 1.0);
     }
 
-    // A known id is replaced, budget and all.
+    // A known id is replaced, budget and all; weights below 0.1 count as 0.1.
     pub fn register_weighted(&mut self, id: u64, priority: Priority, weight: f32)
         ensures { self.new ≡ registered self.old id priority weight }
     {
         self.table.remove(id);
-        self.table
-            .enter(WriterInfo::with_weight(id, priority, weight));
+        self.table.enter(WriterInfo {
+            id,
+            priority,
+            weight: max_f32(weight, 0.1),
+            ..BLANK
+        });
         self.stats.writers_registered = self.stats.writers_registered.saturating_add(1);
     }
 

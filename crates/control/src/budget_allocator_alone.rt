@@ -32,12 +32,13 @@ pub fn with_config(config: CongestionConfig) -> Result<Alone<ConfiguredAllocator
     Ok(Alone::new(
         0,
         ConfiguredAllocator {
-            config: AllocationConfig::from_config(config),
-            allocator: BudgetAllocator::new(),
+            config: AllocationConfig::from(config),
+            allocator: BudgetAllocator::default(),
         },
     ))
 }
 
+// Stays: [2] a call of its own module; what it shares with the controller's is `changed`, and the step is all that differs.
 pub fn register(
     alone: Alone<ConfiguredAllocator>,
     id: u64,

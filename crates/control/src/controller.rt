@@ -28,17 +28,17 @@ pub struct ControllerConfig {
     pub allocation: AllocationConfig,
 }
 
-impl ControllerConfig {
-    // Marks are looked at unless congestion notification is off.
-    pub fn from_config(config: CongestionConfig) -> ControllerConfig
-        ensures { result ≡ controller_config_of config }
-    {
+// Marks are looked at unless congestion notification is off.
+impl From<CongestionConfig> for ControllerConfig {
+    ghost from_gives = { λ config controller. controller ≡ controller_config_of config };
+
+    fn from(config: CongestionConfig) -> ControllerConfig {
         ControllerConfig {
             enabled: config.enabled,
             ecn: config.ecn_mode != EcnMode::Off,
-            scorer: ScorerConfig::from_config(config),
-            rate: RateParams::from_config(config),
-            allocation: AllocationConfig::from_config(config),
+            scorer: ScorerConfig::from(config),
+            rate: RateParams::from(config),
+            allocation: AllocationConfig::from(config),
         }
     }
 }
@@ -71,8 +71,8 @@ impl ControllerCore {
         ControllerCore {
             scorer: CongestionScorer::new(time),
             rate_controller: RateController::with_params(params, time, params.max_rate),
-            ecn: EcnProcessor::new(),
-            metrics: CongestionMetrics::new(),
+            ecn: EcnProcessor::default(),
+            metrics: CongestionMetrics::default(),
             nacks: NackWindow {
                 count: 0,
                 start: time,
@@ -264,7 +264,7 @@ impl CongestionController {
         CongestionController {
             core: ControllerCore::new(config, time),
             tracker: PeerRttTracker::new(DEFAULT_RTT_MS),
-            allocator: BudgetAllocator::new(),
+            allocator: BudgetAllocator::default(),
         }
     }
 
@@ -276,6 +276,7 @@ impl CongestionController {
     }
 
     // The sender found no room.
+    // Stays: [5] the fact that a signal touches the core alone has its name, `with_core`, and each of three calls says what the core becomes.
     pub fn on_eagain(&mut self, config: ControllerConfig)
         ensures { self.new ≡ with_core self.old (on_eagain self.old.core config) }
     {
@@ -304,6 +305,7 @@ impl CongestionController {
     }
 
     // A peer's round-trip time in milliseconds; a full table takes no new peer.
+    // Stays: [5] the Rust's arguments of a sample and document 01's time; a struct of them would be made at each call and taken apart in it.
     pub fn on_rtt_sample(&mut self, config: ControllerConfig, time: u64, peer_id: u32, rtt_ms: f32)
         ensures { self.new ≡ sampled self.old config time peer_id rtt_ms }
     {

@@ -22,7 +22,7 @@ pub fn new(config: CongestionConfig, time: u64) -> Result<Alone<ConfiguredConges
     ensures { result ≡ made_alone config time }
 {
     config.check_making(time)?;
-    let settings = ControllerConfig::from_config(config);
+    let settings = ControllerConfig::from(config);
     Ok(Alone::new(
         time,
         ConfiguredCongestion {
@@ -33,6 +33,7 @@ pub fn new(config: CongestionConfig, time: u64) -> Result<Alone<ConfiguredConges
 }
 
 // Works disabled too.
+// Stays: [2] a call of its own module; what it shares with the allocator's is `changed`, and the step is all that differs.
 pub fn register_writer(
     alone: Alone<ConfiguredCongestion>,
     id: u64,
@@ -46,6 +47,7 @@ pub fn register_writer(
     })
 }
 
+// Stays: [2] one of the Rust's calls, by its name; what the four signals share is `changed`, and the step is all that differs.
 pub fn on_eagain(alone: Alone<ConfiguredCongestion>) -> Left<Alone<ConfiguredCongestion>, ()>
     ensures { result ≡ eagain_alone alone }
 {
@@ -55,6 +57,7 @@ pub fn on_eagain(alone: Alone<ConfiguredCongestion>) -> Left<Alone<ConfiguredCon
     })
 }
 
+// Stays: [2] as `on_eagain`.
 pub fn on_nacks(
     alone: Alone<ConfiguredCongestion>,
     count: u32,
@@ -68,6 +71,7 @@ pub fn on_nacks(
 }
 
 // Whether congestion is signalled.
+// Stays: [2] as `on_eagain`.
 pub fn on_ecn_tos(
     alone: Alone<ConfiguredCongestion>,
     tos: u8,
@@ -80,6 +84,7 @@ pub fn on_ecn_tos(
     })
 }
 
+// Stays: [2] as `on_eagain`.
 pub fn on_ecn_ce(alone: Alone<ConfiguredCongestion>) -> Left<Alone<ConfiguredCongestion>, ()>
     ensures { result ≡ ce_alone alone }
 {

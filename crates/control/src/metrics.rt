@@ -2,9 +2,9 @@
 #![tactic(auto, unfolding(crate::specs::Metrics::change_recorded))]
 
 ghost use Rattle.std.specs.Prelude.{◌≡◌};
-ghost use Rattle.control.specs.Metrics.{no_metrics, rate_recorded, change_recorded, eagain_recorded, ce_recorded};
+ghost use Rattle.control.specs.Metrics.{rate_recorded, change_recorded, eagain_recorded, ce_recorded};
 
-#[derive(Clone, Copy, Debug, PartialEq, Eq)]
+#[derive(Clone, Copy, Debug, PartialEq, Eq, Default)]
 pub struct CongestionMetrics {
     pub current_rate_bps: u32,
     pub eagain_total: u64,
@@ -12,16 +12,6 @@ pub struct CongestionMetrics {
 }
 
 impl CongestionMetrics {
-    pub fn new() -> CongestionMetrics
-        ensures { result ≡ no_metrics }
-    {
-        CongestionMetrics {
-            current_rate_bps: 0,
-            eagain_total: 0,
-            ecn_ce_received: 0,
-        }
-    }
-
     pub fn record_rate(self, rate_bps: u32) -> CongestionMetrics
         ensures { result ≡ rate_recorded self rate_bps }
     {
@@ -42,7 +32,7 @@ impl CongestionMetrics {
         }
     }
 
-    // Stays: two functions that differ in a field. One that is told the field would hide which calls write it.
+    // Stays: [2] a line for each count that stops; one that is told the field would hide which calls write it.
     pub fn record_eagain(self) -> CongestionMetrics
         ensures { result ≡ eagain_recorded self }
     {
@@ -53,6 +43,7 @@ impl CongestionMetrics {
     }
 
     // A window or a mark that signalled congestion.
+    // Stays: [2] as `record_eagain`.
     pub fn record_ecn_ce(self) -> CongestionMetrics
         ensures { result ≡ ce_recorded self }
     {

@@ -19,7 +19,7 @@ pub struct RateParams {
 }
 
 // Changes of the rate, the bytes per second that they took and gave, and the rates reached.
-#[derive(Clone, Copy, Debug, PartialEq, Eq)]
+#[derive(Clone, Copy, Debug, PartialEq, Eq, Default)]
 pub struct RateControllerMetrics {
     pub increases: u64,
     pub decreases_soft: u64,
@@ -50,11 +50,11 @@ pub fn decrease(rate: u32, factor: f32, least: u32) -> u32
     }
 }
 
-impl RateParams {
-    // What the settings say of the rate.
-    pub fn from_config(config: CongestionConfig) -> RateParams
-        ensures { result ≡ params_of config }
-    {
+// What the settings say of the rate.
+impl From<CongestionConfig> for RateParams {
+    ghost from_gives = { λ config params. params ≡ params_of config };
+
+    fn from(config: CongestionConfig) -> RateParams {
         RateParams {
             min_rate: config.min_rate_bps,
             max_rate: config.max_rate_bps,
@@ -63,7 +63,9 @@ impl RateParams {
             md_soft: config.md_factor_soft,
         }
     }
+}
 
+impl RateParams {
     // A rate held to the range.
     fn held(self, rate_bps: u32) -> u32
         ensures { result ≡ held_rate self rate_bps }
@@ -77,13 +79,9 @@ impl RateControllerMetrics {
         ensures { result ≡ new_metrics rate }
     {
         RateControllerMetrics {
-            increases: 0,
-            decreases_soft: 0,
-            decreases_hard: 0,
-            capacity_lost: 0,
-            capacity_gained: 0,
             peak_rate: rate,
             min_rate_reached: rate,
+            ..RateControllerMetrics::default()
         }
     }
 
@@ -127,6 +125,7 @@ impl RateControllerMetrics {
 // The steps: total, with no refusals.
 impl RateController {
     // The initial rate is held to the range.
+    // Stays: [5] the arguments of document 01's `with_params`, and so of its public call and of that one's checks.
     pub fn with_params(params: RateParams, time: u64, initial_rate: u32) -> RateController
         ensures { result ≡ with_params params time initial_rate }
     {

@@ -2,7 +2,7 @@
 #![tactic(auto, unfolding(crate::specs::Scorer::loss_impulse, crate::specs::Scorer::added_if, crate::specs::Scorer::impulse_of, crate::specs::Scorer::tick_measured, crate::specs::Scorer::congestion_measured, crate::specs::Scorer::recovery_measured, crate::specs::Scorer::congested_for, crate::specs::Scorer::on_eagain, crate::specs::Scorer::on_rtt_inflated, crate::specs::Scorer::on_nack, crate::specs::Scorer::on_loss, crate::specs::Scorer::in_cooldown, crate::specs::Scorer::can_increase, crate::specs::Scorer::congested_at, crate::specs::Scorer::evaluated_stable, crate::specs::Scorer::evaluated_congested, crate::specs::Scorer::evaluated, crate::specs::Scorer::ticked))]
 
 ghost use Rattle.std.specs.Prelude.{◌≡◌};
-ghost use Rattle.control.specs.Scorer.{state_number, action_number, scorer_config_of, no_pending, loss_impulse, added_if, impulse_of, tick_measured, congested_for, new_scorer, on_eagain, on_rtt_inflated, on_nack, on_loss, in_cooldown, can_increase, congested_at, evaluated_stable, evaluated_congested, evaluated, ticked};
+ghost use Rattle.control.specs.Scorer.{state_number, action_number, scorer_config_of, loss_impulse, added_if, impulse_of, tick_measured, congested_for, new_scorer, on_eagain, on_rtt_inflated, on_nack, on_loss, in_cooldown, can_increase, congested_at, evaluated_stable, evaluated_congested, evaluated, ticked};
 
 use config::config::CongestionConfig;
 use numeric::float::{clamp_f32, f32_of_u32};
@@ -61,10 +61,10 @@ pub struct ScorerConfig {
 // Nanoseconds in a millisecond.
 const MILLISECOND: u64 = 1000000;
 
-impl ScorerConfig {
-    pub fn from_config(config: CongestionConfig) -> ScorerConfig
-        ensures { result ≡ scorer_config_of config }
-    {
+impl From<CongestionConfig> for ScorerConfig {
+    ghost from_gives = { λ config scorer. scorer ≡ scorer_config_of config };
+
+    fn from(config: CongestionConfig) -> ScorerConfig {
         ScorerConfig {
             tick_interval: config.score_tick_ms as u64 * MILLISECOND,
             decay: config.score_decay,
@@ -83,7 +83,7 @@ impl ScorerConfig {
 }
 
 // The signals since the last tick.
-#[derive(Clone, Copy, Debug, PartialEq, Eq)]
+#[derive(Clone, Copy, Debug, PartialEq, Eq, Default)]
 pub struct PendingSignals {
     pub eagain_count: u32,
     pub rtt_inflated: bool,
@@ -107,17 +107,6 @@ fn loss_impulse(losses: u32) -> f32
 }
 
 impl PendingSignals {
-    pub(crate) fn new() -> PendingSignals
-        ensures { result ≡ no_pending }
-    {
-        PendingSignals {
-            eagain_count: 0,
-            rtt_inflated: false,
-            nack_count: 0,
-            loss_count: 0,
-        }
-    }
-
     // What the pending signals add to the score: each kind once, however often it came, but for losses.
     fn impulse(self, config: ScorerConfig) -> f32
         ensures { result ≡ impulse_of config self }
@@ -134,14 +123,14 @@ impl PendingSignals {
 }
 
 // Signals in all, by kind.
-#[derive(Clone, Copy, Debug, PartialEq, Eq)]
+#[derive(Clone, Copy, Debug, PartialEq, Eq, Default)]
 pub struct SignalCounts {
     pub eagain_signals: u64,
     pub rtt_signals: u64,
     pub nack_signals: u64,
 }
 
-#[derive(Clone, Copy, Debug, PartialEq)]
+#[derive(Clone, Copy, Debug, PartialEq, Default)]
 pub struct ScorerMetrics {
     pub ticks: u64,
     pub congestion_events: u64,
@@ -196,7 +185,7 @@ pub struct CongestionScorer {
     pub(crate) metrics: ScorerMetrics,
 }
 
-// The steps: total, with no refusals. Stays: a function for each signal, as each counts in fields of its own.
+// The steps: total, with no refusals.
 impl CongestionScorer {
     pub fn new(time: u64) -> CongestionScorer
         ensures { result ≡ new_scorer time }
@@ -209,23 +198,14 @@ impl CongestionScorer {
                 cooldown_until: None,
                 stable_since: Some(time),
             },
-            pending: PendingSignals::new(),
-            signals: SignalCounts {
-                eagain_signals: 0,
-                rtt_signals: 0,
-                nack_signals: 0,
-            },
-            metrics: ScorerMetrics {
-                ticks: 0,
-                congestion_events: 0,
-                recovery_events: 0,
-                peak_score: 0.0,
-                congested_duration: 0,
-            },
+            pending: PendingSignals::default(),
+            signals: SignalCounts::default(),
+            metrics: ScorerMetrics::default(),
         }
     }
 
     // The sender found no room.
+    // Stays: [2] a function for each signal, as each counts in two fields of its own, which a function for both would have to be told.
     pub fn on_eagain(mut self) -> CongestionScorer
         ensures { result ≡ on_eagain self }
     {
@@ -244,6 +224,7 @@ impl CongestionScorer {
     }
 
     // A window of NACKs was above its threshold.
+    // Stays: [2] as `on_eagain`.
     pub fn on_nack(mut self) -> CongestionScorer
         ensures { result ≡ on_nack self }
     {
@@ -261,6 +242,7 @@ impl CongestionScorer {
     }
 
     // The score decays and takes what is pending; the state follows. Told: what the scorer asks for.
+    #[tactic(auto, unfolding(crate::specs::Scorer::ticked))]
     pub fn tick(self, config: ScorerConfig, time: u64) -> (CongestionScorer, CongestionAction)
         ensures { result ≡ ticked self config time }
     {
@@ -269,13 +251,14 @@ impl CongestionScorer {
         let scorer = CongestionScorer {
             score,
             last_tick: time,
-            pending: PendingSignals::new(),
+            pending: PendingSignals::default(),
             metrics: self.metrics.tick(score),
             ..self
         };
         scorer.evaluate_state(config, time, self.pending.eagain_count > 0)
     }
 
+    // Stays: [5] what a tick hands from step to step; as a struct it would be made in `tick` and taken apart in each.
     fn evaluate_state(
         self,
         config: ScorerConfig,

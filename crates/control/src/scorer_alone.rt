@@ -23,46 +23,50 @@ pub fn from_config(config: CongestionConfig, time: u64) -> Result<Alone<Configur
     Ok(Alone::new(
         time,
         ConfiguredScorer {
-            config: ScorerConfig::from_config(config),
+            config: ScorerConfig::from(config),
             scorer: CongestionScorer::new(time),
         },
     ))
 }
 
+// The signals take no time: of the reasons only 17 may apply.
+// Stays: [2] one of the Rust's calls, by its name; what the four signals share is `changed`, and the step is all that differs.
 pub fn on_eagain(alone: Alone<ConfiguredScorer>) -> Left<Alone<ConfiguredScorer>, ()>
     ensures { result ≡ eagain_alone alone }
 {
-    noted(alone, alone.inner.scorer.on_eagain())
+    let ledger = alone.ledger;
+    alone.changed(ledger.check_counted(), ledger.counted(), |inner| {
+        inner.scorer = inner.scorer.on_eagain();
+    })
 }
 
+// Stays: [2] as `on_eagain`.
 pub fn on_rtt_inflated(alone: Alone<ConfiguredScorer>) -> Left<Alone<ConfiguredScorer>, ()>
     ensures { result ≡ inflated_alone alone }
 {
-    noted(alone, alone.inner.scorer.on_rtt_inflated())
+    let ledger = alone.ledger;
+    alone.changed(ledger.check_counted(), ledger.counted(), |inner| {
+        inner.scorer = inner.scorer.on_rtt_inflated();
+    })
 }
 
+// Stays: [2] as `on_eagain`.
 pub fn on_nack(alone: Alone<ConfiguredScorer>) -> Left<Alone<ConfiguredScorer>, ()>
     ensures { result ≡ nack_alone alone }
 {
-    noted(alone, alone.inner.scorer.on_nack())
+    let ledger = alone.ledger;
+    alone.changed(ledger.check_counted(), ledger.counted(), |inner| {
+        inner.scorer = inner.scorer.on_nack();
+    })
 }
 
+// Stays: [2] as `on_eagain`.
 pub fn on_loss(alone: Alone<ConfiguredScorer>) -> Left<Alone<ConfiguredScorer>, ()>
     ensures { result ≡ loss_alone alone }
 {
-    noted(alone, alone.inner.scorer.on_loss())
-}
-
-// A signal takes no time: the scorer with it, unless the calls are used up.
-fn noted(
-    alone: Alone<ConfiguredScorer>,
-    scorer: CongestionScorer,
-) -> Left<Alone<ConfiguredScorer>, ()>
-    ensures { result ≡ noted_by alone scorer }
-{
     let ledger = alone.ledger;
-    alone.after(ledger.check_counted(), ledger.counted(), |before| {
-        (ConfiguredScorer { scorer, ..before }, ())
+    alone.changed(ledger.check_counted(), ledger.counted(), |inner| {
+        inner.scorer = inner.scorer.on_loss();
     })
 }
 

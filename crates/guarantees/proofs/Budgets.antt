@@ -1,15 +1,16 @@
 -- The writers of a station in its allocator's table: every one is there after every call, so each update that a call tells sets a
 -- pacer's rate. Assumes nothing.
+-- Stays: what Starts and Theorem cite of settings that reach their pacers (`settings`); no crate below has a station's writers beside its allocator's table.
 use Prim.Native.Nat.{ℕ, zero, suc, ◌+◌, ◌≤◌, ◌<◌}
 use mathlib.Core.Bool.{Bool, true, false, true≢false}
 use mathlib.Core.List.{List, [], ◌∷◌, map, Memᴰ}
 use mathlib.Core.Logic.{◌≢◌}
 use mathlib.Core.Path.{◌≡◌, refl, sym, ap, subst, ◌∙◌}
-use native.Mathlib.Decide.{ℕ_discrete}
 use native.Mathlib.Omega.{arith}
 use borrow.Author.Tests.{eqb-true, eqb-false, ltb-true, ltb-false, lt-leb}
 use lib.Dec.{ltb, eqb}
 use lib.ListN.{length, take}
+use Rattle.std.proofs.lemmas.Bool.{true_from_ne_false}
 use Rattle.config.specs.declared.config.Priority.{Priority}
 use Rattle.control.proofs.Writers.{place_with, registered_writers, allotted_writers, in_order-from}
 use Rattle.control.specs.BudgetAllocator.{new_writer, row_at, comes_before, taken_of, writers_of, place_of, entered, is_known, without, full_for, shares_of, with_budget, allotted_table, one, registered, reallocated}
@@ -24,7 +25,7 @@ use Rattle.control.specs.declared.budget_allocator.WriterTable.{WriterTable}
 use Rattle.control.specs.declared.controller.CongestionController.{CongestionController}
 use Rattle.numeric.proofs.Choice.{by_test}
 use Rattle.numeric.specs.Search.{first}
-use Rattle.queue.specs.declared.pool.Limits.{Limits}
+use Rattle.queue.specs.Pool.{Limits}
 use Rattle.pacing.specs.TokenBucket.{rated, resized}
 use Rattle.pacing.specs.WriterPacer.{Pacer, rate_of, rate_set}
 use Rattle.pacing.specs.declared.writer_pacer.PacerConfig.{PacerConfig}
@@ -33,7 +34,7 @@ use Rattle.guarantees.specs.Calls.{Call, Reply, nothing, signal, unchanged, upda
 use Rattle.guarantees.specs.Theorem.{Kept, keep, Each, is_updates, SetTo, ReplyReaches, StartsLeast, Reaches}
 use Rattle.guarantees.proofs.Changes.{begins-down, Cases, by_case}
 use Rattle.guarantees.proofs.Pages.{each}
-use Rattle.guarantees.proofs.Rosters.{Seated, id_with, count_with, seated_with, joined_new, joined_other, count_joined, seated-joined, id_budgeted, budgeted_at, count_budgeted, seated-budgeted}
+use Rattle.guarantees.proofs.Rosters.{Seated, id_with, seated_with, joined_new, by_newcomer, seated-joined, id_budgeted, budgeted_at, seated-budgeted}
 
 -- ---- ids in lists of writers
 
@@ -87,11 +88,7 @@ found-row id (x ∷ xs) (suc n) le lt =
 
 known_where : (t : WriterTable) (id : ℕ) → Has id (writers_of t) → is_known t id ≡ true
 unfolding is_known place_of
-known_where t id has = go (ltb (place_of t id) (taken_of t.count)) refl
-  where
-    go : (b : Bool) → ltb (place_of t id) (taken_of t.count) ≡ b → b ≡ true
-    go true e = refl
-    go false e = absurd (has (lacks_rows id t.rows (taken_of t.count) (ltb-false _ _ e)))
+known_where t id has = true_from_ne_false _ (λ e. has (lacks_rows id t.rows (taken_of t.count) (ltb-false _ _ e)))
 
 known-row :
     (t : WriterTable) (id : ℕ) → length t.rows ≡ 64 → is_known t id ≡ true
@@ -134,20 +131,17 @@ listed_ids t r r' ok seated count ids =
 
 -- a rate shared out
 module _ (a : BudgetAllocator) (c : AllocationConfig) (rate : ℕ) (r : Roster) (ok : Listed a.table r) where
-  count-reallocated : (reallocated a c rate).table.count ≡ a.table.count
-  unfolding reallocated allotted_table
-  count-reallocated = refl
-
   lacks-reallocated : (id : ℕ) → Lacks id (writers_of (reallocated a c rate).table) → Lacks id (writers_of a.table)
   unfolding allocator.allotted
   lacks-reallocated id none =
       lacks_budgets id (shares_of c rate (writers_of a.table)) (writers_of a.table) (subst (Lacks id) (allotted_writers a c rate) none)
 
   listed-reallocated : Listed (reallocated a c rate).table r
+  unfolding reallocated allotted_table
   listed-reallocated =
       record {
         in_order = in_order-from a (reallocate c rate ∷ []) ok.in_order;
-        few = omega (arith, count-reallocated, ok.few);
+        few = ok.few;
         seated = ok.seated;
         has = λ i lo none. ok.has i lo (lacks-reallocated (writer_at r i).id none);
       }
@@ -173,23 +167,17 @@ module _ (a : BudgetAllocator) (r : Roster) (w : Writer) (class : Priority) (roo
       (h.0, lacks_removed id w.id (writers_of a.table) h.0 h.1)
 
   listed-registered : Listed (registered a w.id class one).table (joined r w)
+  unfolding joined
   listed-registered =
       record {
         in_order = in_order-from a (register w.id class one ∷ []) ok.in_order;
-        few = omega (arith, count-registered, count_joined r w);
+        few = count-registered;
         seated = seated-joined r w ok.seated room;
-        has = λ i lo. go i (omega (arith, count_joined r w)) (ℕ_discrete i r.count);
+        has = λ i lo.
+            by_newcomer (λ (j : ℕ) (x : Writer). Has x.id (writers_of (registered a w.id class one).table)) r w i ok.seated room
+            lo (λ none. (lacks-registered w.id none).0 refl)
+            (λ old none. ok.has i old (lacks-registered (writer_at r i).id none).1);
       }
-    where
-      go : (i : ℕ) → i < r.count + 1 → Dec (i ≡ r.count) → Has (writer_at (joined r w) i).id (writers_of (registered a w.id class one).table)
-      go i lo (yes e) none =
-          (lacks-registered (writer_at (joined r w) i).id none).0
-          (sym (ap (λ (x : Writer). x.id) (ap (writer_at (joined r w)) e ∙ joined_new r w ok.seated room)))
-      go i lo (no ne) none =
-          ok.has i (omega arith)
-          (lacks-registered (writer_at r i).id
-          (subst (λ (x : Writer). Lacks x.id (writers_of (registered a w.id class one).table)) (joined_other r w i ne) none)
-          ).1
 
 -- ---- stations
 
@@ -222,11 +210,11 @@ module _ (s : Station) (ok : IsKnown s) where
       (listed-reallocated s.controller.allocator s.config.controller.allocation rate s.roster ok)
 
   known-allotted : (time : ℕ) (c : CongestionController) → Listed c.allocator.table s.roster → IsKnown (allotted s time c)
+  unfolding budgeted_all
   known-allotted time c there =
       let t = c.allocator.table in
       listed_ids t s.roster (budgeted_all s.config.pacer time t s.roster) there
-      (seated-budgeted s.config.pacer time t s.roster ok.seated)
-      (count_budgeted s.config.pacer time t s.roster)
+      (seated-budgeted s.config.pacer time t s.roster ok.seated) refl
       (λ i lo.
       ap (λ (w : Writer). w.id) (budgeted_at s.config.pacer time t s.roster i ok.seated lo)
       ∙ id_budgeted s.config.pacer time t (writer_at s.roster i))
@@ -237,9 +225,10 @@ module _ (s : Station) (ok : IsKnown s) where
       listed-registered s.controller.allocator s.roster (writer_of id (first_pacer s.config.pacer time)) class room ok
 
   listed-paced : (i : ℕ) (p : Pacer) → i < s.roster.count → Listed s.controller.allocator.table (with_pacer s.roster i p)
+  unfolding with_pacer
   listed-paced i p lo =
       listed_ids s.controller.allocator.table s.roster (with_pacer s.roster i p) ok (seated_with s.roster i p ok.seated)
-      (count_with s.roster i p) (λ j below. id_with s.roster i p j ok.seated lo)
+      refl (λ j below. id_with s.roster i p j ok.seated lo)
 
   pub known_outcome : (n : ℕ) (x : Call) → IsKnown (outcome s n x).station
   known_outcome n x = by_case s n (λ y o. IsKnown o.station) cases x

@@ -1,5 +1,6 @@
 -- What a call does to a station, in six cases: it is turned down, steers the controller alone, gives new budgets, registers a writer,
 -- hands in a record, or attempts to send one. Assumes nothing.
+-- Stays: the six cases by which Budgets, Pages, Paces, Sound and Waits go over the calls (`by_case`); no crate below knows calls.
 use Prim.Native.Nat.{ℕ, ◌^◌, ◌≤◌, ◌<◌}
 use mathlib.Core.Bool.{Bool, false}
 use mathlib.Core.List.{List}
@@ -22,9 +23,8 @@ use Rattle.control.specs.Controller.{sampled, ticked_with, core_ticked, controll
 use Rattle.control.specs.declared.controller.CongestionController.{CongestionController}
 use Rattle.control.specs.declared.controller.ControllerCore.{ControllerCore}
 use Rattle.numeric.proofs.Choice.{by_test}
-use Rattle.queue.specs.Pool.{is_short}
+use Rattle.queue.specs.Pool.{Limits, is_short}
 use Rattle.queue.specs.declared.entry.InstanceKey.{InstanceKey}
-use Rattle.queue.specs.declared.pool.Limits.{Limits}
 use Rattle.pacing.specs.WriterPacer.{action_number, hand_in_stored}
 use Rattle.pacing.specs.declared.send_action.SendAction.{SendAction}
 use Rattle.pacing.specs.declared.send_action.SendAction.TheVariants.{Send, Empty, RateLimited}
@@ -161,15 +161,16 @@ module _ (s : Station) (n : ℕ) (P : Call → Outcome → Type 0) (cases : Case
 
   -- the controller is steered, and the reply tells of no record and no budgets
   steers-by :
-      (time : ℕ) (steering : Steering) (reply : Reply) (c : CongestionController) → c.allocator ≡ s.controller.allocator → IsSilent reply → Timed s time
-      → P (control time steering) (outcome_of 0 reply (steered s time c))
-  steers-by time steering reply c same silent h = cases.steers (control time steering) time reply c same (quiet_control time steering) silent h
+      (time : ℕ) (steering : Steering) (reply : Reply) (c : CongestionController) → c.allocator ≡ s.controller.allocator → sent_in reply ≡ none
+      → is_updates reply ≡ false → Timed s time → P (control time steering) (outcome_of 0 reply (steered s time c))
+  steers-by time steering reply c same sends tells h =
+      cases.steers (control time steering) time reply c same (quiet_control time steering) (record { sends_none = sends; no_updates = tells }) h
 
   ticks : (time : ℕ) (k : ControllerCore × Bool) → Timed s time → P (control time tick) (allots (tick_leaves s time (ticked_with s.controller s.config.controller k)))
   ticks time k h =
       by_test (λ (t : CongestionController × Bool). P (control time tick) (allots (tick_leaves s time t))) k.1
       (λ e. cases.allots (control time tick) time _ k.0.rate_controller.current_rate refl (quiet_control time tick) h)
-      (λ e. steers-by time tick unchanged _ refl (record { sends_none = refl; no_updates = refl }) h)
+      (λ e. steers-by time tick unchanged _ refl refl refl h)
 
   -- a sample leaves the allocator
   sample-leaves :
@@ -182,17 +183,17 @@ module _ (s : Station) (n : ℕ) (P : Call → Outcome → Type 0) (cases : Case
   unfolding controlled written eagain_station nacks_station tos_station rtt_station ticked_station rated_station controller_ticked controller_set
   by-control time eagain =
       by-checks (control time eagain) plain (timed_checks s.ledger time) _ (λ e. refl) (λ e q p. refl)
-      (λ q h. steers-by time eagain nothing _ refl (record { sends_none = refl; no_updates = refl }) (passed time h))
+      (λ q h. steers-by time eagain nothing _ refl refl refl (passed time h))
   by-control time (tos byte) =
       by-checks (control time (tos byte)) signals (timed_checks s.ledger time) _ (λ e. refl) (λ e q p. refl)
-      (λ q h. steers-by time (tos byte) (signal _) _ refl (record { sends_none = refl; no_updates = refl }) (passed time h))
+      (λ q h. steers-by time (tos byte) (signal _) _ refl refl refl (passed time h))
   by-control time (nacks count) =
       by-checks (control time (nacks count)) plain (timed_checks s.ledger time) _ (λ e. refl) (λ e q p. refl)
-      (λ q h. steers-by time (nacks count) nothing _ refl (record { sends_none = refl; no_updates = refl }) (passed time h))
+      (λ q h. steers-by time (nacks count) nothing _ refl refl refl (passed time h))
   by-control time (rtt peer sample) =
       by-checks (control time (rtt peer sample)) plain (rtt_checks s time peer sample) _ (λ e. refl) (λ e q p. refl)
       (λ q h.
-      steers-by time (rtt peer sample) nothing _ (sample-leaves time peer sample) (record { sends_none = refl; no_updates = refl })
+      steers-by time (rtt peer sample) nothing _ (sample-leaves time peer sample) refl refl
       (timed_by s time (rtt_checks s time peer sample) refl refl refl h))
   by-control time tick =
       by-checks (control time tick) allots (timed_checks s.ledger time) (tick_leaves s time (controller_ticked s.controller s.config.controller time)) (λ e. refl) (λ e q p. refl)

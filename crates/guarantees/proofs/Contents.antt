@@ -1,5 +1,6 @@
 -- Contents steer nothing: of the records and of the pool the station reads the lengths alone, and a place of the pool has the same byte
 -- for two lists that bring the same to it. Assumes nothing.
+-- Stays: what Theorem cites of contents, which steer nothing (`contents`); neither std nor a crate below has two runs side by side.
 use Prim.Native.Nat.{ℕ, zero, suc, ◌+◌, ◌≤◌, ◌<◌}
 use mathlib.Core.Bool.{Bool, true, false, cond}
 use mathlib.Core.List.{List, [], ◌∷◌, ◌++◌, map}
@@ -152,8 +153,8 @@ lent_carried : (s : Station) (l l' : Lent) (p p' : List ℕ) → blank_lent l �
     Carried (λ k. LentSame k s l l') p p' (in_place s l p) (in_place s l' p')
 unfolding in_place
 lent_carried s owed owed p p' e h = kept_carried (λ k. Unit {0}) p p' h
-lent_carried s owed (instead o') p p' e h = absurd (omega (arith, same-lent (suc (length o')) owed (instead o') e))
-lent_carried s (instead o) owed p p' e h = absurd (omega (arith, same-lent (suc (length o)) (instead o) owed e))
+lent_carried s owed (instead o') p p' e h = absurd (cc)
+lent_carried s (instead o) owed p p' e h = absurd (cc)
 lent_carried s (instead o) (instead o') p p' e h =
     let long : length o ≡ length o' = same-lent 0 (instead o) (instead o') e in
     both_tests (Carried Same p p') (is_short (length o) needed) (is_short (length o') needed) (ap (λ (n : ℕ). is_short n needed) long)
@@ -271,10 +272,10 @@ alike : (s : Station) (p p' : List ℕ) (xs ys : List Call) → length p ≡ len
     Alike (state_of s p) (state_of s p') xs ys
 unfolding after run answers AllSame
 alike s p p' [] [] e f = record { same_answers = refl; same_station = refl; same_length = e; same_bytes = λ k same all. same }
-alike s p p' [] (y ∷ ys) e f = absurd (omega (arith, ap length f))
-alike s p p' (x ∷ xs) [] e f = absurd (omega (arith, ap length f))
+alike s p p' [] (y ∷ ys) e f = absurd (cc)
+alike s p p' (x ∷ xs) [] e f = absurd (cc)
 alike s p p' (x ∷ xs) (y ∷ ys) e f =
-    let heads : blanked x ≡ blanked y = ap (λ (l : List Call). get_or l 0 (blanked x)) f in
+    let heads : blanked x ≡ blanked y = cc in
     let step : Carried (λ k. StepSame k (state_of s p) x y) p p' (after (state_of s p) x).pool (after (state_of s p') y).pool
     = after_carried s p p' x y e heads in
     let same : outcome s (length p) x ≡ outcome s (length p') y
@@ -283,7 +284,7 @@ alike s p p' (x ∷ xs) (y ∷ ys) e f =
     = subst (λ (z : Station). Alike (after (state_of s p) x) (state_of z (after (state_of s p') y).pool) xs ys)
     (ap (λ (o : Outcome). o.station) same)
     (alike (after (state_of s p) x).station (after (state_of s p) x).pool (after (state_of s p') y).pool xs ys step.lengths
-    (ap (drop 1) f)) in
+    (cc)) in
     record {
       same_answers = ap₂ {C = List Answer} (λ o l. record { answer = o.answer; reply = o.reply } ∷ l) same rest.same_answers;
       same_station = rest.same_station;

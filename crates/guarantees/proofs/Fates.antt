@@ -1,4 +1,5 @@
 -- Each accepted record has exactly one fate in the book, whatever calls and answers the book is told. Assumes nothing.
+-- Stays: what Pages, Sound and Starts cite of a record's one fate in the book; std has no list in four parts, and no crate below has the book.
 use Prim.Native.Nat.{ℕ, zero, suc, ◌+◌, ◌≤◌, ◌<◌}
 use mathlib.Core.Bool.{Bool, true, false, cond}
 use mathlib.Core.List.Memᴰ
@@ -15,7 +16,7 @@ use Rattle.config.specs.declared.config.Priority.{Priority}
 use Rattle.config.specs.declared.config.Priority.TheVariants.{P0, P1, P2}
 use Rattle.numeric.proofs.Choice.{by_test}
 use Rattle.queue.specs.declared.entry.InstanceKey.{InstanceKey}
-use Rattle.queue.specs.declared.pool.Limits.{Limits}
+use Rattle.queue.specs.Pool.{Limits}
 use Rattle.pacing.specs.Records.{Held, shaped, place_of}
 use Rattle.guarantees.specs.Book.{Queue, room_in, joining, replacing, keyed_in, handed_to, taken_from, Page, page_of, empty_page, with_queue, sequence_of, next_p2_after, record_of, page_handed, page_used, handed_by, page_sent, Book, with_page, Sent, none, one, page_after_send, noted}
 use Rattle.guarantees.specs.Calls.{Call, register, control, hand_in, send}

@@ -1,5 +1,6 @@
 -- One pacer and its page of the book, over a hand-in and a send attempt: the fate that the pacer gives a record is the book's, and the queues
 -- hold what the page lists. Assumes nothing.
+-- Stays: what Pages, Sound and Waits cite of one pacer beside its page; no crate below has the book's pages.
 use Prim.Native.Nat.{ℕ, ◌+◌, ◌≤◌, ◌<◌}
 use mathlib.Core.Bool.{Bool, cond}
 use mathlib.Core.List.{List}
@@ -13,13 +14,12 @@ use Rattle.numeric.proofs.Choice.{by_test}
 use Rattle.numeric.specs.Integer.{next}
 use Rattle.queue.specs.Coalescing.{Coalescing, inserted}
 use Rattle.queue.specs.Fates.{fate_number}
-use Rattle.queue.specs.Pool.{limit_in}
+use Rattle.queue.specs.Pool.{Limits, limit_in}
 use Rattle.queue.specs.Waiting.{has_room, joins}
 use Rattle.queue.specs.declared.entry.InstanceKey.{InstanceKey}
 use Rattle.queue.specs.declared.fate.Fate.{Fate}
 use Rattle.queue.specs.declared.fate.Fate.TheVariants.{Joined, PushedOut}
 use Rattle.queue.specs.declared.fate.Kept.{Kept}
-use Rattle.queue.specs.declared.pool.Limits.{Limits}
 use Rattle.pacing.proofs.Records.{Matches, length-waiting, place-waiting, hand_in_matches, send_matches}
 use Rattle.pacing.proofs.RecordsLimits.{is_listed, by_key}
 use Rattle.pacing.specs.Records.{Held, place_of, with_list, list_after, Parts, parts_of, parts_handed, book_of, book_handed, book_sent, record_in, Shows}

@@ -1,11 +1,11 @@
 -- The buckets of a station after every call: each stays as the settings have it, and what its pacer sends is covered by tokens and time,
 -- from any station on, until its rate is set again. Assumes nothing.
-use Prim.Native.Nat.{ℕ, ◌+◌, ◌≤◌, ◌<◌}
+-- Stays: what Theorem, Starts and Waits cite of the buckets of a station (`allowance`); the laws below it are of one bucket (Tokens).
+use Prim.Native.Nat.{ℕ, ◌≤◌, ◌<◌}
 use mathlib.Core.Bool.{false, true≢false}
 use mathlib.Core.List.{List, [], ◌∷◌, ◌++◌}
 use mathlib.Core.Logic.{◌≢◌}
-use mathlib.Core.Path.{◌≡◌, refl, sym, ap, subst, ◌∙◌}
-use native.Mathlib.Decide.{ℕ_discrete}
+use mathlib.Core.Path.{◌≡◌, refl, sym, ap, subst}
 use native.Mathlib.Omega.{arith}
 use borrow.Author.Tests.{eq-eqb, ne_eqb, eqb-false}
 use lib.Dec.{eqb}
@@ -22,9 +22,9 @@ use Rattle.pacing.specs.declared.token_bucket.TokenBucket.{TokenBucket}
 use Rattle.pacing.specs.declared.writer_pacer.PacerConfig.{PacerConfig}
 use Rattle.station.specs.Station.{Writer, Roster, Station, station_of, writer_of, writer_at, pacer_in, with_pacer, joined, budgeted, budgeted_all, steered, allotted, register_leaves, first_pacer, paced, enqueued_in, attempt_in}
 use Rattle.guarantees.specs.Calls.{Lent, Call, register, control, hand_in, send, nothing, action, Outcome, outcome, State, answered, after, run}
-use Rattle.guarantees.specs.Theorem.{bucket_in, sets_by, sets, IsUnset, paid_as, paid_by, paid, refills_by, refills, Allowance}
+use Rattle.guarantees.specs.Theorem.{bucket_in, sets_by, sets, IsUnset, paid_by, paid, refills_by, refills, Allowance}
 use Rattle.guarantees.proofs.Changes.{Timed, Cases, by_case, by_send}
-use Rattle.guarantees.proofs.Rosters.{Seated, pacer-same, pacer_other, count_with, seated_with, joined_new, joined_other, seated-joined, budgeted_at, seated-budgeted}
+use Rattle.guarantees.proofs.Rosters.{Seated, by_seat, seated_with, joined_other, by_newcomer, seated-joined, budgeted_at, seated-budgeted}
 use Rattle.guarantees.proofs.Tokens.{Paced, paced-made, paced-later, paced-rated, paced-attempt, handed_tokens, Covers, refill_of, covers_same, refill-same, covers_then, covers_within, attempt-allowance}
 
 -- ---- buckets as the settings have them
@@ -35,17 +35,6 @@ pub record IsTicking (s : Station) : Type 0 where
   pub most : s.config.pacer.max_rate_bps ≤ 1000000000
   pub seated : Seated s.roster
   pub buckets : (i : ℕ) → i < s.roster.count → Paced s.ledger.last (pacer_in s i).tokens
-
--- with another pacer in place i, what holds of it there and of the others as they were holds of all
-by_seat :
-    (P : Pacer → Type 0) (r : Roster) (i : ℕ) (p : Pacer) (j : ℕ) → Seated r → i < r.count → (j ≡ i → P p)
-    → (j ≢ i → P (writer_at r j).pacer) → P (writer_at (with_pacer r i p) j).pacer
-by_seat P r i p j ok lo here there = go (ℕ_discrete j i)
-  where
-    go : Dec (j ≡ i) → P (writer_at (with_pacer r i p) j).pacer
-    go (yes e) =
-        subst (λ (x : ℕ). P (writer_at (with_pacer r i p) x).pacer) (sym e) (subst P (sym (pacer-same r i p ok lo)) (here e))
-    go (no ne) = subst (λ (w : Writer). P w.pacer) (sym (pacer_other r i p j ne)) (there ne)
 
 -- a budget is a rate setting, or nothing
 paced-budgeted :
@@ -82,26 +71,22 @@ module _ (s : Station) (ok : IsTicking s) where
   unfolding register_leaves joined
   ticking-registered time id class h lo =
       ticking-roster time _ (joined s.roster w) (seated-joined s.roster w ok.seated lo)
-      (λ i below. go i below (ℕ_discrete i s.roster.count))
+      (λ i below.
+      by_newcomer (λ (j : ℕ) (x : Writer). Paced time x.pacer.tokens) s.roster w i ok.seated lo below
+      (paced-made time s.config.pacer.limits s.config.pacer.min_rate_bps ok.least (omega (arith, ok.ordered, ok.most)))
+      (later time h i))
     where
       w : Writer
       w = writer_of id (first_pacer s.config.pacer time)
 
-      go : (i : ℕ) → i < s.roster.count + 1 → Dec (i ≡ s.roster.count) → Paced time (writer_at (joined s.roster w) i).pacer.tokens
-      go i below (yes e) =
-          subst (λ (x : ℕ). Paced time (writer_at (joined s.roster w) x).pacer.tokens) (sym e)
-          (subst (λ (x : Writer). Paced time x.pacer.tokens) (sym (joined_new s.roster w ok.seated lo))
-          (paced-made time s.config.pacer.limits s.config.pacer.min_rate_bps ok.least (omega (arith, ok.ordered, ok.most))))
-      go i below (no ne) =
-          subst (λ (x : Writer). Paced time x.pacer.tokens) (sym (joined_other s.roster w i ne)) (later time h i (omega arith))
-
   ticking-paced :
       (time i : ℕ) (p : Pacer) → Timed s time → i < s.roster.count → Paced time p.tokens → IsTicking (paced s time i p)
+  unfolding with_pacer
   ticking-paced time i p h lo own =
       ticking-roster time s.controller (with_pacer s.roster i p) (seated_with s.roster i p ok.seated)
       (λ j below.
-      by_seat (λ (q : Pacer). Paced time q.tokens) s.roster i p j ok.seated lo (λ e. own)
-      (λ ne. later time h j (rw (← count_with s.roster i p) below)))
+      by_seat (λ (k : ℕ) (w : Writer). Paced time w.pacer.tokens) s.roster i p j ok.seated lo own
+      (λ ne. later time h j below))
 
   pub ticking_outcome : (n : ℕ) (x : Call) → IsTicking (outcome s n x).station
   ticking_outcome n x = by_case s n (λ y o. IsTicking o.station) cases x
@@ -136,6 +121,10 @@ pays-nothing i (register time id class) = refl
 pays-nothing i (control time steering) = refl
 pays-nothing i (hand_in time j class key bytes lent) = refl
 
+-- a bucket that stays has sent nothing
+still : {b b' : TokenBucket} (bytes : ℕ) → b ≡ b' → bytes ≡ 0 → Covers b b' bytes (refill_of b b')
+still bytes e z = rw (z, refill-same e) (covers_same e)
+
 -- what pacer i sends by a call that does not set its rate is covered
 module _ (i : ℕ) (s : Station) (ok : IsTicking s) where
   -- the bucket of pacer i in a station
@@ -147,23 +136,18 @@ module _ (i : ℕ) (s : Station) (ok : IsTicking s) where
       sets_by i s x o ≡ false
       → Covers (tokens_in s) (tokens_in o.station) (paid_by i x o.reply) (refill_of (tokens_in s) (tokens_in o.station))
 
-  -- a bucket that stays has sent nothing
-  still : (b : TokenBucket) (bytes : ℕ) → tokens_in s ≡ b → bytes ≡ 0 → Covers (tokens_in s) b bytes (refill_of (tokens_in s) b)
-  still b bytes e z = rw (z, refill-same e) (covers_same e)
-
   registered-covers :
       (time id : ℕ) (class : Priority) → i ≢ s.roster.count
       → Covers (tokens_in s) (tokens_in (register_leaves s time id class)) 0 (refill_of (tokens_in s) (tokens_in (register_leaves s time id class)))
   unfolding register_leaves
-  registered-covers time id class ne = still _ 0 (ap (λ (w : Writer). w.pacer.tokens) (sym (joined_other s.roster _ i ne))) refl
+  registered-covers time id class ne = still 0 (ap (λ (w : Writer). w.pacer.tokens) (sym (joined_other s.roster _ i ne))) refl
 
   handed-covers :
       (time j : ℕ) (p : Pacer) → j < s.roster.count → p.tokens ≡ (pacer_in s j).tokens
       → Covers (tokens_in s) (tokens_in (paced s time j p)) 0 (refill_of (tokens_in s) (tokens_in (paced s time j p)))
   handed-covers time j p lo same =
-      by_seat (λ (q : Pacer). Covers (tokens_in s) q.tokens 0 (refill_of (tokens_in s) q.tokens)) s.roster j p i ok.seated lo
-      (λ e. still p.tokens 0 (ap (λ (x : ℕ). (pacer_in s x).tokens) e ∙ sym same) refl)
-      (λ ne. still (tokens_in s) 0 refl refl)
+      by_seat (λ (k : ℕ) (w : Writer). Covers (pacer_in s k).tokens w.pacer.tokens 0 (refill_of (pacer_in s k).tokens w.pacer.tokens)) s.roster j p i
+      ok.seated lo (still 0 (sym same) refl) (λ ne. still 0 refl refl)
 
   tried-covers :
       (time j : ℕ) (lent : Lent) → Timed s time → j < s.roster.count
@@ -172,17 +156,12 @@ module _ (i : ℕ) (s : Station) (ok : IsTicking s) where
   unfolding paid_by
   tried-covers time j lent h lo =
       by_seat
-      (λ (q : Pacer).
-      Covers (tokens_in s) q.tokens (paid_by i (send time j lent) (action (attempt_in s time j).1)) (refill_of (tokens_in s) q.tokens))
+      (λ (k : ℕ) (w : Writer).
+      Covers (pacer_in s k).tokens w.pacer.tokens (paid_by k (send time j lent) (action (attempt_in s time j).1))
+      (refill_of (pacer_in s k).tokens w.pacer.tokens))
       s.roster j (attempt_in s time j).0 i ok.seated lo
-      (λ e.
-      rw (eq-eqb j i (sym e))
-      (subst
-      (λ (x : ℕ).
-      Covers (pacer_in s x).tokens (attempt_in s time j).0.tokens (paid_as (attempt_in s time j).1) (refill_of (pacer_in s x).tokens (attempt_in s time j).0.tokens))
-      (sym e)
-      (attempt-allowance s.config.pacer.enabled (pacer_in s j) time s.ledger.last (ok.buckets j lo) h.ahead)))
-      (λ ne. rw (ne_eqb j i (λ (e : j ≡ i). ne (sym e))) (still (tokens_in s) 0 refl refl))
+      (rw (eq-eqb j j refl) (attempt-allowance s.config.pacer.enabled (pacer_in s j) time s.ledger.last (ok.buckets j lo) h.ahead))
+      (λ ne. rw (ne_eqb j i (λ (e : j ≡ i). ne (sym e))) (still 0 refl refl))
 
   pub covers_outcome : (n : ℕ) (x : Call) → CoversIn x (outcome s n x)
   unfolding sets_by paid_by
@@ -191,8 +170,8 @@ module _ (i : ℕ) (s : Station) (ok : IsTicking s) where
       cases : Cases s n CoversIn
       cases =
           record {
-            turned_down = λ y answer z t same e. still (tokens_in s) _ refl (pays-nothing i y);
-            steers = λ y time reply c same q silent h e. still (tokens_in s) _ refl (q.pays i reply);
+            turned_down = λ y answer z t same e. still _ refl (pays-nothing i y);
+            steers = λ y time reply c same q silent h e. still _ refl (q.pays i reply);
             allots = λ y time c rate is q h e. absurd (true≢false e);
             registers = λ time id class h lo e. registered-covers time id class (eqb-false _ _ e);
             hands = λ time j c key bytes lent h lo short wide puts e.
@@ -234,12 +213,12 @@ send_unset i s time j lent =
 send-refill :
     (s : State) → IsTicking s.station → (time i : ℕ) (lent : Lent) → (answered s (send time i lent)).answer ≡ accepted
     → (bucket_in (after s (send time i lent)) i).last_refill ≤ time
-unfolding after
+unfolding after with_pacer
 send-refill s ok time i lent taken =
     by_send s.station (length s.pool) time i lent
     (λ o. o.answer ≡ 0 → IsTicking o.station → (pacer_in o.station i).tokens.last_refill ≤ time)
     (λ answer z t e. absurd (z e))
-    (λ h lo wide e tick. (tick.buckets i (rw (count_with s.station.roster i (attempt_in s.station time i).0) lo)).before)
+    (λ h lo wide e tick. (tick.buckets i lo).before)
     taken
     (ticking_outcome s.station ok (length s.pool) (send time i lent))
 

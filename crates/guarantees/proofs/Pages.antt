@@ -1,17 +1,16 @@
 -- A sound station matches its book after every call of a list, and each record sent is the first that its page lists; in the owed pool
 -- the bytes too. Assumes nothing.
+-- Stays: what Theorem, Budgets and Waits cite of a station beside its book (`fates`, `each`); no crate below has the book.
 use Prim.Native.Nat.{ℕ, ◌+◌, ◌≤◌, ◌<◌}
-use mathlib.Core.Bool.{Bool, true, false, true≢false}
+use mathlib.Core.Bool.{Bool, true, false}
 use mathlib.Core.List.{List, [], ◌∷◌, ◌++◌, map}
 use mathlib.Core.Path.{◌≡◌, refl, sym, ap, subst, ◌∙◌}
 use native.Mathlib.Omega.{arith}
 use borrow.Author.Tests.{ltb-false}
-use lib.ListN.{length, get_or, take}
-use Rattle.std.proofs.lemmas.List.{nil_from_length}
+use lib.ListN.{length, get_or}
+use Rattle.std.proofs.lemmas.List.{nil_from_length, take_more}
 use Rattle.config.specs.declared.config.Priority.{Priority}
-use Rattle.config.specs.declared.config.Priority.TheVariants.{P0, P1, P2}
-use Rattle.queue.specs.Pool.{bytes_of, is_short}
-use Rattle.queue.specs.declared.pool.Limits.{Limits}
+use Rattle.queue.specs.Pool.{Limits, bytes_of, is_short}
 use Rattle.pacing.proofs.Records.{length-waiting, entries-waiting}
 use Rattle.pacing.specs.Records.{Held, nobody, waiting, parts_of, Shows}
 use Rattle.pacing.specs.WriterPacer.{sent_bytes}
@@ -77,17 +76,12 @@ fated m g k ok =
 
 -- ---- what is shown
 
--- a list that has one begins with its first
-pub first_of : (xs : List Held) (d : Held) → 0 < length xs → take 1 xs ≡ get_or xs 0 d ∷ []
-first_of [] d h = absurd (omega arith)
-first_of (x ∷ xs) d h = refl
-
 module _ (m : Limits) (i : ℕ) (g : List ℕ) (p : Page) where
   action-shows : (a : SendAction) → Shows m i g (page_view p) a → ActionShows p a
   action-shows (Send c slot sequence n forced) w =
       record {
         first = get_or (p.queues c).waiting 0 nobody;
-        is_first = first_of (p.queues c).waiting nobody w.waits;
+        is_first = take_more (p.queues c).waiting 0 nobody w.waits;
         sequence_is = w.sequence_is;
         length_is = w.length_is;
       }
@@ -97,7 +91,7 @@ module _ (m : Limits) (i : ℕ) (g : List ℕ) (p : Page) where
   action-bytes : (a : SendAction) → Shows m i g (page_view p) a → FirstBytes p (sent_bytes m i a g) (action a)
   action-bytes (Send c slot sequence n forced) w = λ first e.
       sym w.bytes_are
-      ∙ ap (λ (xs : List Held). (get_or xs 0 nobody).bytes) (sym (first_of (p.queues c).waiting nobody w.waits) ∙ e)
+      ∙ ap (λ (xs : List Held). (get_or xs 0 nobody).bytes) (sym (take_more (p.queues c).waiting 0 nobody w.waits) ∙ e)
   action-bytes Empty w = tt
   action-bytes (RateLimited wait) w = tt
 
@@ -250,8 +244,8 @@ idle-outcome m b s n p x = by_case s n P cases x
           steers = λ x time reply c same q silent h short. record { pool = q.pool s n p; book = q.book m b 0 (sent_in reply) };
           allots = λ x time c rate is q h short. record { pool = q.pool s n p; book = q.book m b 0 none };
           registers = λ time id class h lo short. record { pool = refl; book = refl };
-          hands = λ time i c key bytes lent h lo size wide puts short. absurd (true≢false (sym short ∙ wide));
-          tries = λ time i lent h lo wide short. absurd (true≢false (sym short ∙ wide));
+          hands = λ time i c key bytes lent h lo size wide puts short. absurd (cc);
+          tries = λ time i lent h lo wide short. absurd (cc);
         }
 
 module _ (m : Limits) (k : Kept) (x : Call) (xs : List Call) (ok : IsShortPool m k (x ∷ xs)) where
@@ -290,7 +284,7 @@ module _ (m : Limits) (k : Kept) (x : Call) (xs : List Call) (ok : IsShortPool m
       (λ o. FirstBytes (k.book i) (shown_by k.state.station i o.reply (in_place k.state.station lent k.state.pool)) o.reply) (λ answer z t. tt)
       (λ h lo wide.
       let short = subst (λ (y : Call). is_short (lent_length (length k.state.pool) (lent_in y)) (slots_needed (limits_in k.state.station)) ≡ true) e too_short in
-      absurd (true≢false (sym short ∙ wide)))))
+      absurd (cc))))
 
 short_holds : (m : Limits) (k : Kept) (xs : List Call) → IsShortPool m k xs → HoldsBytes k
 short_holds m k xs ok i lo c =
@@ -305,10 +299,6 @@ short_holds m k xs ok i lo c =
 
 -- ---- part 1
 
-either : (P : Type 0) (t : Bool) → (t ≡ true → P) → (t ≡ false → P) → P
-either P true f g = f refl
-either P false f g = g refl
-
 pub fates :
     (m : Limits) (k : Kept) (xs : List Call) → SomePool m k → ((i : ℕ) (c : Priority) → ((k.book i).queues c).waiting ≡ [])
     → (bytes_of (slots_needed m) ≤ length k.state.pool → IsSound m k.state.pool k.state.station k.book) → Fates m k xs
@@ -317,14 +307,14 @@ fates m k xs ok idle owns =
     record {
       fated = always m (λ (j : Kept) (ys : List Call). SomePool m j) (some_step m) IsFated (λ j ys i. fated m i.pool j i.sound) k xs ok;
       shown = each m (λ (j : Kept) (ys : List Call). SomePool m j) (some_step m) IsShown (λ j x ys i. shown m i.pool j i.sound x) k xs ok;
-      bytes_held = λ lent.
-          either (Always m HoldsBytes k xs) (is_short (length k.state.pool) (slots_needed m))
-          (λ e. always m (IsShortPool m) (short-step m) HoldsBytes (short_holds m) k xs (record { some = ok; short = e; idle = idle; lent = lent }))
-          (λ e.
-          always m (OwedPool m) (owed-step m) HoldsBytes (λ j ys i. holds_bytes m j i.sound) k xs
-          (record { sound = owns (ltb-false _ _ e); lent = lent }));
-      bytes_shown = λ lent.
-          either (Each m ShownBytes k xs) (is_short (length k.state.pool) (slots_needed m))
-          (λ e. each m (IsShortPool m) (short-step m) ShownBytes (short-shown m) k xs (record { some = ok; short = e; idle = idle; lent = lent }))
-          (λ e. each m (OwedPool m) (owed-step m) ShownBytes (owed-shown m) k xs (record { sound = owns (ltb-false _ _ e); lent = lent }));
+      bytes_held = λ lent. (bytes lent (is_short (length k.state.pool) (slots_needed m)) refl).0;
+      bytes_shown = λ lent. (bytes lent (is_short (length k.state.pool) (slots_needed m)) refl).1;
     }
+  where
+    bytes : IsOwed m xs → (t : Bool) → is_short (length k.state.pool) (slots_needed m) ≡ t → Always m HoldsBytes k xs × Each m ShownBytes k xs
+    bytes lent true e =
+        let start : IsShortPool m k xs = record { some = ok; short = e; idle = idle; lent = lent } in
+        (always m (IsShortPool m) (short-step m) HoldsBytes (short_holds m) k xs start, each m (IsShortPool m) (short-step m) ShownBytes (short-shown m) k xs start)
+    bytes lent false e =
+        let start : OwedPool m k xs = record { sound = owns (ltb-false _ _ e); lent = lent } in
+        (always m (OwedPool m) (owed-step m) HoldsBytes (λ j ys i. holds_bytes m j i.sound) k xs start, each m (OwedPool m) (owed-step m) ShownBytes (owed-shown m) k xs start)

@@ -1,6 +1,7 @@
 -- What holds of a station and its book after every list of calls, and that every call keeps it: the queues hold what the pages list, the
 -- counts are the lists' lengths, and no counter has come near its largest value. Assumes nothing.
-use Prim.Native.Nat.{ℕ, zero, suc, ◌+◌, ◌*◌, ◌^◌, ◌≤◌, ◌<◌}
+-- Stays: what Pages, Starts, Theorem and Waits cite of a station that matches its book (`sound_outcome`); no crate below has the book.
+use Prim.Native.Nat.{ℕ, suc, ◌+◌, ◌*◌, ◌^◌, ◌≤◌, ◌<◌}
 use mathlib.Core.Bool.{Bool, false, cond}
 use mathlib.Core.List.{List}
 use mathlib.Core.Logic.{◌≢◌}
@@ -11,6 +12,8 @@ use native.Mathlib.Omega.{arith}
 use borrow.Author.Tests.{eq-eqb, ne_eqb}
 use lib.Dec.{eqb}
 use lib.ListN.{length, get_or, replicate}
+use Rattle.std.proofs.lemmas.Grind.{common_steps}
+use Rattle.std.proofs.lemmas.List.{get_or_past, get_or-replicate}
 use Rattle.config.specs.Config.{class_number}
 use Rattle.config.specs.Ledger.{moved}
 use Rattle.config.specs.declared.config.Priority.{Priority}
@@ -20,12 +23,11 @@ use Rattle.control.specs.declared.budget_allocator.WriterTable.{WriterTable}
 use Rattle.control.specs.declared.controller.CongestionController.{CongestionController}
 use Rattle.numeric.proofs.Choice.{by_test}
 use Rattle.queue.specs.Fates.{is_full, fate_number}
-use Rattle.queue.specs.Pool.{bytes_of, slots_of, limit_in}
+use Rattle.queue.specs.Pool.{Limits, bytes_of, slots_of, limit_in}
 use Rattle.queue.specs.declared.entry.InstanceKey.{InstanceKey}
 use Rattle.queue.specs.declared.fate.Fate.{Fate}
 use Rattle.queue.specs.declared.fate.Fate.TheVariants.{Full, Joined, PushedOut, Replaced}
 use Rattle.queue.specs.declared.fate.Kept.{Kept}
-use Rattle.queue.specs.declared.pool.Limits.{Limits}
 use Rattle.pacing.proofs.Counts.{count_handed, count_sent}
 use Rattle.pacing.proofs.Records.{Matches, get_or-waiting, short-at, length-handed, matches_other, stays, made-matches}
 use Rattle.pacing.proofs.RecordsLimits.{IsLimited, keeps}
@@ -36,13 +38,13 @@ use Rattle.pacing.specs.declared.send_action.SendAction.{SendAction}
 use Rattle.pacing.specs.declared.send_action.SendAction.TheVariants.{Send, Empty, RateLimited}
 use Rattle.pacing.specs.declared.token_bucket.TokenBucket.{TokenBucket}
 use Rattle.pacing.specs.declared.writer_pacer.PacerConfig.{PacerConfig}
-use Rattle.station.specs.Station.{Station, Roster, Writer, station_of, writer_of, writer_at, pacer_in, limits_in, slots_needed, joined, budgeted, steered, allotted, register_leaves, first_pacer, paced, enqueued_in, attempt_in}
+use Rattle.station.specs.Station.{Station, Roster, Writer, station_of, writer_of, writer_at, pacer_in, with_pacer, limits_in, slots_needed, joined, budgeted, budgeted_all, steered, allotted, register_leaves, first_pacer, paced, enqueued_in, attempt_in}
 use Rattle.guarantees.specs.Book.{Page, Book, empty_page, with_page, Sent, none, one, sent_as, sent_in, handed_by, page_after_send, noted}
 use Rattle.guarantees.specs.Calls.{Lent, Call, register, control, hand_in, send, Outcome, outcome, written}
 use Rattle.guarantees.proofs.Changes.{Timed, Cases, by_case}
 use Rattle.guarantees.proofs.Fates.{IsBalancedPage, balanced-noted}
 use Rattle.guarantees.proofs.HandIns.{page_view, count_is, least, fate_is, hands_in, TriedBy, tries_out}
-use Rattle.guarantees.proofs.Rosters.{Seated, pacer-same, pacer_other, count_with, seated_with, joined_new, joined_other, seated-joined, budgeted_at, count_budgeted, seated-budgeted}
+use Rattle.guarantees.proofs.Rosters.{Seated, pacer-same, pacer_other, seated_with, by_newcomer, seated-joined, budgeted_at, seated-budgeted}
 use Rattle.guarantees.proofs.Tallies.{IsTallied, fate_of, handed_next, handed_tallied, Waits, sent_tallied, tallied_same, tallied_new}
 
 -- `g` is a pool that was lent to every call: the owed one, or any that is long enough where others write in it
@@ -163,12 +165,7 @@ count_tried enabled p time k lo ne =
 
 -- a new pacer has counted nothing
 count_made : (time : ℕ) (m : Limits) (rate k : ℕ) → count_in (made time m rate) k ≡ 0
-count_made time m rate k = zeros 13 k
-  where
-    zeros : (n k : ℕ) → get_or {A = ℕ} (replicate n 0) k 0 ≡ 0
-    zeros zero k = refl
-    zeros (suc n) zero = refl
-    zeros (suc n) (suc k) = zeros n k
+count_made time m rate k = grind (arith, common_steps, get_or_past {X = ℕ} (replicate 13 0) k 0, get_or-replicate {A = ℕ} 13 k 0 0)
 
 -- ---- a registered pacer and its page
 
@@ -263,11 +260,11 @@ module _ (m : Limits) (g : List ℕ) (s : Station) (b : Book) (ok : IsSound m g 
 
   -- a budget touches neither queues nor numbers
   sound-allotted : (x : CongestionController) → IsSound m g (allotted s time x) b
+  unfolding budgeted_all
   sound-allotted x =
       sound-roster x _ (seated-budgeted s.config.pacer time x.allocator.table s.roster ok.seated)
-      (omega (arith, count_budgeted s.config.pacer time x.allocator.table s.roster))
-      (λ i lo.
-      let own : i < s.roster.count = omega (arith, count_budgeted s.config.pacer time x.allocator.table s.roster) in
+      (omega arith)
+      (λ i own.
       rw (budgeted_at s.config.pacer time x.allocator.table s.roster i ok.seated own)
       (paged_budgeted m g calls i (b i) s.config.pacer time x.allocator.table (writer_at s.roster i) (paged i own)))
 
@@ -275,7 +272,9 @@ module _ (m : Limits) (g : List ℕ) (s : Station) (b : Book) (ok : IsSound m g 
   sound-registered : (id : ℕ) (class : Priority) → s.roster.count < 4 → IsSound m g (register_leaves s time id class) b
   unfolding register_leaves joined
   sound-registered id class lo =
-      sound-roster _ (joined s.roster w) (seated-joined s.roster w ok.seated lo) (omega arith) (λ i below. page i below (ℕ_discrete i s.roster.count))
+      sound-roster _ (joined s.roster w) (seated-joined s.roster w ok.seated lo) (omega arith)
+      (λ i below.
+      by_newcomer (λ (j : ℕ) (x : Writer). IsPaged m g calls j x.pacer (b j)) s.roster w i ok.seated lo below new-page (paged i))
     where
       w : Writer
       w = writer_of id (first_pacer s.config.pacer time)
@@ -286,12 +285,6 @@ module _ (m : Limits) (g : List ℕ) (s : Station) (b : Book) (ok : IsSound m g 
           (subst (λ (l : Limits). IsPaged m g calls s.roster.count (made time l s.config.pacer.min_rate_bps) empty_page) (sym ok.same_limits)
           (paged_new m g calls s.roster.count time s.config.pacer.min_rate_bps (ok.limited time s.config.pacer.min_rate_bps)
           (slots_wide m s.roster.count g lo ok.wide)))
-
-      page : (i : ℕ) → i < s.roster.count + 1 → Dec (i ≡ s.roster.count) → IsPaged m g calls i (writer_at (joined s.roster w) i).pacer (b i)
-      page i below (yes e) =
-          subst (λ (x : ℕ). IsPaged m g calls x (writer_at (joined s.roster w) x).pacer (b x)) (sym e)
-          (rw (joined_new s.roster w ok.seated lo) new-page)
-      page i below (no ne) = rw (joined_other s.roster w i ne) (paged i (omega arith))
 
   -- ---- a call on pacer i
 
@@ -305,6 +298,7 @@ module _ (m : Limits) (g : List ℕ) (s : Station) (b : Book) (ok : IsSound m g 
         → ((j : ℕ) → IsBalancedPage (with_page b i page j)) → IsPaged m g' calls i p page
         → ((j : ℕ) → j < s.roster.count → j ≢ i → Matches m j (parts_of (pacer_in s j) g') (page_view (b j)))
         → IsSound m g' (paced s time i p) (with_page b i page)
+    unfolding with_pacer
     sound-paced g' p page long used balanced own others =
         record {
           seated = seated_with s.roster i p ok.seated;
@@ -314,11 +308,11 @@ module _ (m : Limits) (g : List ℕ) (s : Station) (b : Book) (ok : IsSound m g 
           counted = counted_next;
           used = λ j. by_page (λ (k : ℕ) (p : Page). p.next ≤ calls) b i page j (omega (arith, calls-next)) (λ ne. used-next j);
           balanced = balanced;
-          pages = λ j below. (pages j (rw (← count_with s.roster i p) below)).matches;
-          tallies = λ j below. (pages j (rw (← count_with s.roster i p) below)).tallied;
-          few = λ j k below. (pages j (rw (← count_with s.roster i p) below)).few k;
+          pages = λ j below. (pages j below).matches;
+          tallies = λ j below. (pages j below).tallied;
+          few = λ j k below. (pages j below).few k;
           unregistered = λ j above.
-              page_other b i page j (λ (e : j ≡ i). omega (arith, count_with s.roster i p)) ∙ ok.unregistered j (rw (← count_with s.roster i p) above);
+              page_other b i page j (λ (e : j ≡ i). omega arith) ∙ ok.unregistered j above;
         }
       where
         other : (j : ℕ) → j < s.roster.count → j ≢ i → IsPaged m g' calls j (pacer_in s j) (b j)

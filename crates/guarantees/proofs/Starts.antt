@@ -1,22 +1,21 @@
 -- What settings that make a station promise, and that a station just made matches an empty book. Assumes nothing.
+-- Stays: what Theorem cites of a station just made; the crates below say it of their own parts alone.
 use Prim.Native.Nat.{ℕ, ◌≤◌}
 use mathlib.Core.Bool.{Bool, true, false, true≢false, cond, ◌||◌}
 use mathlib.Core.List.{List, []}
-use mathlib.Core.Path.{◌≡◌, refl, sym, ap}
+use mathlib.Core.Path.{◌≡◌, refl}
 use native.Mathlib.Omega.{arith}
 use borrow.Author.Tests.{ltb-false}
 use lib.Dec.{ltb}
 use lib.ListN.{length}
 use Rattle.std.proofs.lemmas.Bool.{or_parts, not-false}
-use Rattle.std.specs.Prelude.{Result, Ok, Err, is_err, not}
-use Rattle.std.specs.Result.{result_unwrap_or}
+use Rattle.std.specs.Prelude.{Result, Ok, Err, not}
 use Rattle.config.proofs.Refusals.{Verdict, NoneApplies, none_where_accepted}
 use Rattle.config.specs.Config.{is_invalid, failed_check, rates_beyond, floats_beyond, queues_beyond}
 use Rattle.config.specs.Refusal.{verdict_of}
 use Rattle.config.specs.declared.config.CongestionConfig.{CongestionConfig}
 use Rattle.config.specs.declared.config.InvalidSetting.{InvalidSetting}
 use Rattle.config.specs.declared.config.InvalidSetting.TheVariants.{Rates}
-use Rattle.config.specs.declared.refusal.Refusal.{Refusal}
 use Rattle.config.specs.declared.refusal.Refusal.TheVariants.{SettingsInvalid, SettingsBeyond}
 use Rattle.control.proofs.Writers.{in_order}
 use Rattle.control.specs.Controller.{new_controller}
@@ -58,8 +57,8 @@ module _ (N0 N1 N2 : ℕ) (c : CongestionConfig) (time : ℕ) (s : Station) (mad
   passed = go (verdict_of (room_checks N0 N1 N2 c time)) refl made_it
     where
       go : (v : Verdict) → verdict_of (room_checks N0 N1 N2 c time) ≡ v → made_by v new ≡ Ok s → (verdict_of (room_checks N0 N1 N2 c time) ≡ Ok tt) × (s ≡ new)
-      go (Ok u) q e = (q, sym (ap (λ (r : Result Station Refusal). result_unwrap_or r new) e))
-      go (Err r) q e = absurd (true≢false (ap is_err e))
+      go (Ok u) q e = (q, cc)
+      go (Err r) q e = absurd (cc)
 
   pub station_is : s ≡ new
   station_is = passed.1

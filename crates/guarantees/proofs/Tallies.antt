@@ -1,4 +1,5 @@
 -- What a hand-in and a send attempt add to the lengths of the book's lists is what the counts of their pacer add. Assumes nothing.
+-- Stays: what HandIns, Pages and Sound cite of counts beside the lists of the book; pacing's Counts says what a call adds, and knows no book.
 use Prim.Native.Nat.{ℕ, ◌+◌, ◌≤◌, ◌<◌}
 use mathlib.Core.Bool.{Bool, true, false, cond}
 use mathlib.Core.List.{List, [], ◌∷◌, ◌++◌}
@@ -13,11 +14,10 @@ use Rattle.config.specs.declared.config.Priority.{Priority}
 use Rattle.config.specs.declared.config.Priority.TheVariants.{P0, P1, P2}
 use Rattle.numeric.proofs.Choice.{by_test}
 use Rattle.queue.specs.Fates.{fate_number}
-use Rattle.queue.specs.Pool.{limit_in}
+use Rattle.queue.specs.Pool.{Limits, limit_in}
 use Rattle.queue.specs.declared.entry.InstanceKey.{InstanceKey}
 use Rattle.queue.specs.declared.fate.Fate.{Fate}
 use Rattle.queue.specs.declared.fate.Fate.TheVariants.{Full, Joined, PushedOut, Replaced}
-use Rattle.queue.specs.declared.pool.Limits.{Limits}
 use Rattle.pacing.specs.Counts.{count_in, only_at, hand_adds, send_adds}
 use Rattle.pacing.specs.Records.{Held, place_of, join_list, list_after, with_list}
 use Rattle.pacing.specs.WriterPacer.{Pacer, made, metrics_in}
@@ -68,10 +68,6 @@ pub record Wider (q r : Queue) (accepts sends pushes replaces : ℕ) : Type 0 wh
 wider_same : (q : Queue) → Wider q q 0 0 0 0
 wider_same q = record { accepted = omega arith; sent = omega arith; pushed = omega arith; replaced = omega arith }
 
--- one record more on a list
-one_more : (xs : List Held) (x : Held) → length (xs ++ (x ∷ [])) ≡ length xs + 1
-one_more xs x = length-append xs (x ∷ [])
-
 -- the first of a list that has one
 first_more : (xs ys : List Held) → 1 ≤ length ys → length (xs ++ take 1 ys) ≡ length xs + 1
 first_more xs ys h = rw (length-append xs (take 1 ys)) (omega (arith, length-take 1 ys))
@@ -80,7 +76,7 @@ wider_joined : (limit : ℕ) (q : Queue) (x : Held) → room_in limit q.waiting 
 unfolding joining
 wider_joined limit q x e =
     record {
-      accepted = one_more q.accepted x;
+      accepted = length-append q.accepted (x ∷ []);
       sent = omega arith;
       pushed = rw e (length-append q.pushed_out []);
       replaced = omega arith;
@@ -90,7 +86,7 @@ wider_pushed : (limit : ℕ) (q : Queue) (x : Held) → 1 ≤ limit → room_in 
 unfolding joining
 wider_pushed limit q x h e =
     record {
-      accepted = one_more q.accepted x;
+      accepted = length-append q.accepted (x ∷ []);
       sent = omega arith;
       pushed = rw e (first_more q.pushed_out q.waiting (omega (arith, ltb-false (length q.waiting) limit e)));
       replaced = omega arith;
@@ -100,7 +96,7 @@ wider_replaced : (place : ℕ) (q : Queue) (x : Held) → place < length q.waiti
 unfolding replacing
 wider_replaced place q x h =
     record {
-      accepted = one_more q.accepted x;
+      accepted = length-append q.accepted (x ∷ []);
       sent = omega arith;
       pushed = omega arith;
       replaced = first_more q.replaced (drop place q.waiting) (omega (arith, length-drop place q.waiting));

@@ -1,4 +1,5 @@
 -- Demand 3 holds of every list of calls on a new station. Assumes nothing.
+-- Stays: `theorem`, what README.md and docs/GUARANTEES.md say of every list of calls; nothing cites it.
 use Prim.Native.Nat.{ℕ, ◌≤◌}
 use mathlib.Core.List.{List}
 use mathlib.Core.Path.{◌≡◌, refl, sym, subst}

@@ -1,7 +1,8 @@
 -- What calls on one pacer do to its tokens: its bucket stays as the settings have it, a send attempt refills it once at most and pays
 -- from it, and the record for which a wait was told goes once the wait and a nanosecond are over. Assumes nothing.
+-- Stays: what Paces and Waits cite of one bucket over send attempts; pacing's Credit and Waits say it of one refill.
 use Prim.Native.Nat.{ℕ, ◌+◌, ◌-◌, ◌*◌, ◌^◌, ◌≤◌, ◌<◌, min}
-use mathlib.Core.Bool.{Bool, true, false, true≢false, cond}
+use mathlib.Core.Bool.{Bool, true, false, cond}
 use mathlib.Core.Logic.{◌≢◌, ◌⊎◌, inl, inr}
 use mathlib.Core.Path.{◌≡◌, refl, sym, ap, subst, ◌∙◌}
 use native.Mathlib.Nat.{mul-le-mul_left}
@@ -15,16 +16,15 @@ use Rattle.numeric.proofs.Choice.{by_test}
 use Rattle.queue.specs.Waiting.{has_room}
 use Rattle.queue.specs.declared.entry.InstanceKey.{InstanceKey}
 use Rattle.queue.specs.declared.fate.Kept.{Kept}
-use Rattle.queue.specs.declared.pool.Limits.{Limits}
+use Rattle.queue.specs.Pool.{Limits}
 use Rattle.pacing.proofs.Credit.{credit-at_most, credit-none, wait_enough}
 use Rattle.pacing.specs.TokenBucket.{credit, wait_of, earned, refilled, tried, forced, told, rated, resized}
 use Rattle.pacing.specs.TokenBucket as bucket
 use Rattle.pacing.specs.WriterPacer.{Queues, Pacer, with_tokens, with_counts, waiting_in, slot_in, made, enqueue_p0, enqueue_p1, enqueue_p2, enqueue, handed_in, front_of, send_of, gone, by_p0, by_p1, by_p2, attempt_p0, paid, waited_by, waited, limited, attempt, noted_send, sent_from, sent_if, rate_set, burst_of}
 use Rattle.pacing.specs.declared.pacer_counts.PacerCounts.{PacerCounts}
 use Rattle.pacing.specs.declared.send_action.SendAction.{SendAction}
-use Rattle.pacing.specs.declared.send_action.SendAction.TheVariants.{Send, Empty, RateLimited}
+use Rattle.pacing.specs.declared.send_action.SendAction.TheVariants.{Empty, RateLimited}
 use Rattle.pacing.specs.declared.token_bucket.TokenBucket.{TokenBucket}
-use Rattle.pacing.specs.declared.token_bucket.Tried.{Tried}
 use Rattle.pacing.specs.declared.writer_pacer.PacerConfig.{PacerConfig}
 use Rattle.guarantees.specs.Theorem.{paid_as}
 
@@ -191,19 +191,11 @@ rests p a o z = record { from = p.tokens; once = o; left = p.tokens.tokens; leav
 
 -- ---- waits told, and records that go
 
-abbrev is_wait : SendAction → Bool
-is_wait (Send c slot sequence n forced) = false
-is_wait Empty = false
-is_wait (RateLimited wait) = true
-
-no_wait : {A : Type 0} {wait : ℕ} (a : SendAction) → is_wait a ≡ false → a ≡ RateLimited wait → A
-no_wait a e z = absurd (true≢false (sym (ap is_wait z) ∙ e))
-
 -- with control off no wait is told
 pub wait_enabled : (enabled : Bool) (p : Pacer) (time wait : ℕ) → (sent_if enabled p time).1 ≡ RateLimited wait → enabled ≡ true
 unfolding sent_if
 wait_enabled true p time wait z = refl
-wait_enabled false p time wait z = no_wait Empty refl z
+wait_enabled false p time wait z = absurd (cc)
 
 -- what a wait tells: nothing waits in P0, the wait is that for the first of a class, and the bucket alone has changed
 record Awaits (p : Pacer) (time wait : ℕ) (x : Pacer × SendAction) : Type 0 where
@@ -217,14 +209,14 @@ record Awaits (p : Pacer) (time wait : ℕ) (x : Pacer × SendAction) : Type 0 w
 
 -- a class's first is paid for where the tokens are there
 paid-goes : (b : TokenBucket) (q : Queues) (c : Priority) (time : ℕ) → 0 < waiting_in q c
-    → (front_of q c).length ≤ (refilled b time).tokens → (paid b q c time).taken ≡ true
+    → (front_of q c).length ≤ (refilled b time).tokens → (paid b q c time).1 ≡ true
 unfolding paid tried
 paid-goes b q c time n m =
     rw (ne_eqb (waiting_in q c) 0 (λ (z : waiting_in q c ≡ 0). omega arith), le-leb (front_of q c).length (refilled b time).tokens m) refl
 
 -- and an empty queue leaves the bucket
 paid_empty : (b : TokenBucket) (q : Queues) (c : Priority) (time : ℕ) → waiting_in q c ≡ 0
-    → paid b q c time ≡ record { bucket = b; taken = false }
+    → paid b q c time ≡ (b, false)
 unfolding paid
 paid_empty b q c time n = rw (eq-eqb (waiting_in q c) 0 n) refl
 
@@ -295,6 +287,7 @@ covers_refilled b time h l =
         })
 
 -- the refill time moves exactly where the credit is above 0
+-- Stays: docs/DECISIONS.md names it: what the theorem's count of refills counts.
 pub refill-credit : {last : ℕ} (b : TokenBucket) (time : ℕ) → Paced last b → refill_of b (refilled b time) ≡ cond (ltb 0 (earned b time)) 1 0
 unfolding refilled
 refill-credit b time h = go (ltb 0 (earned b time)) refl
@@ -308,9 +301,9 @@ covers_once {b = b} time h t (inl e) = rw (refill-same (sym e)) (covers_same (sy
 covers_once {b = b} time h t (inr e) = subst (λ (y : TokenBucket). Covers b y 0 (refill_of b y)) (sym e) (covers_refilled b time h t)
 
 -- n tokens are taken, or are not there, after a refill
-tried_by_lem : {last : ℕ} {b : TokenBucket} (P : Tried → Type 0) (x : TokenBucket) (time n : ℕ) → Paced last b → Once b time x
-    → ((y : TokenBucket) → Once b time y → n ≤ y.tokens → P (record { bucket = bucket.with_tokens y (y.tokens - n); taken = true }))
-    → ((y : TokenBucket) → Once b time y → P (record { bucket = y; taken = false }))
+tried_by_lem : {last : ℕ} {b : TokenBucket} (P : TokenBucket × Bool → Type 0) (x : TokenBucket) (time n : ℕ) → Paced last b → Once b time x
+    → ((y : TokenBucket) → Once b time y → n ≤ y.tokens → P (bucket.with_tokens y (y.tokens - n), true))
+    → ((y : TokenBucket) → Once b time y → P (y, false))
     → P (tried x time n)
 unfolding tried
 tried_by_lem P x time n h o f g =
@@ -318,9 +311,9 @@ tried_by_lem P x time n h o f g =
     (λ e. g (refilled x time) (once-refilled time h o))
 
 -- the same of the first record of a class, whose queue may be empty
-paid_by_lem : {last : ℕ} {b : TokenBucket} (P : Tried → Type 0) (x : TokenBucket) (q : Queues) (c : Priority) (time : ℕ) → Paced last b → Once b time x
-    → ((y : TokenBucket) → Once b time y → (front_of q c).length ≤ y.tokens → P (record { bucket = bucket.with_tokens y (y.tokens - (front_of q c).length); taken = true }))
-    → ((y : TokenBucket) → Once b time y → P (record { bucket = y; taken = false }))
+paid_by_lem : {last : ℕ} {b : TokenBucket} (P : TokenBucket × Bool → Type 0) (x : TokenBucket) (q : Queues) (c : Priority) (time : ℕ) → Paced last b → Once b time x
+    → ((y : TokenBucket) → Once b time y → (front_of q c).length ≤ y.tokens → P (bucket.with_tokens y (y.tokens - (front_of q c).length), true))
+    → ((y : TokenBucket) → Once b time y → P (y, false))
     → P (paid x q c time)
 unfolding paid
 paid_by_lem P x q c time h o f g =
@@ -397,7 +390,7 @@ awaits : {last : ℕ} (p : Pacer) (time wait : ℕ) → Paced last p.tokens → 
     → (attempt p time).1 ≡ RateLimited wait → Awaits p time wait (attempt p time)
 unfolding gone
 awaits p time wait h t =
-    attempt_by_lem A p time h (λ c y left short o m z. no_wait _ refl z)
+    attempt_by_lem A p time h (λ c y left short o m z. absurd (cc))
     (λ y o e.
     limited_by A (with_tokens p y) time
     (λ c n.
@@ -412,13 +405,13 @@ awaits p time wait h t =
       next = n;
       told_as = same w z;
     }))
-    (λ z. no_wait Empty refl z))
+    (λ z. absurd (cc)))
   where
     A : Pacer × SendAction → Type 0
     A x = x.1 ≡ RateLimited wait → Awaits p time wait x
 
     same : {a : SendAction} {k : ℕ} → (a ≡ Empty) ⊎ (a ≡ RateLimited k) → a ≡ RateLimited wait → wait ≡ k
-    same (inl e) z = no_wait Empty refl (sym e ∙ z)
+    same (inl e) z = absurd (cc)
     same (inr e) z = cc
 
 -- the credit of the wait and a nanosecond is what was missing

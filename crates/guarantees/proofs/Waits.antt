@@ -1,13 +1,14 @@
 -- A wait that was told is kept: where the next accepted call is that pacer's send attempt a nanosecond or more after it, the record for
 -- which it was told goes. Assumes nothing.
+-- Stays: what Theorem cites of waits that were told (`waits`); no crate below has calls between a wait and the attempt.
 use Prim.Native.Nat.{ℕ, ◌+◌, ◌^◌, ◌≤◌, ◌<◌}
-use mathlib.Core.Bool.{Bool, true, false, true≢false}
+use mathlib.Core.Bool.{true, false}
 use mathlib.Core.List.{List, [], ◌∷◌}
 use mathlib.Core.Logic.{◌≢◌}
 use mathlib.Core.Path.{◌≡◌, refl, sym, ap, subst, ◌∙◌}
 use native.Mathlib.Omega.{arith}
 use lib.ListN.{length, take}
-use Rattle.std.proofs.lemmas.List.{nil_from_length}
+use Rattle.std.proofs.lemmas.List.{nil_from_length, take_more}
 use Rattle.config.specs.Refusal.{accepted}
 use Rattle.config.specs.declared.config.Priority.{Priority}
 use Rattle.config.specs.declared.config.Priority.TheVariants.{P0, P1, P2}
@@ -16,21 +17,21 @@ use Rattle.queue.specs.Fates.{fate_number}
 use Rattle.queue.specs.declared.entry.Entry.{Entry}
 use Rattle.queue.specs.declared.fate.Fate.{Fate}
 use Rattle.queue.specs.declared.fate.Fate.TheVariants.{Full, Joined, PushedOut, Replaced}
-use Rattle.queue.specs.declared.pool.Limits.{Limits}
+use Rattle.queue.specs.Pool.{Limits}
 use Rattle.pacing.proofs.Records.{Matches, length-waiting, get_or-waiting}
 use Rattle.pacing.specs.Records.{Held, nobody, entry_at, held, waiting, parts_of}
 use Rattle.pacing.specs.WriterPacer.{Pacer, waiting_in, slot_in, front_of, send_of, sent_from, sent_if}
 use Rattle.pacing.specs.declared.send_action.SendAction.{SendAction}
-use Rattle.pacing.specs.declared.send_action.SendAction.TheVariants.{Empty, RateLimited}
+use Rattle.pacing.specs.declared.send_action.SendAction.TheVariants.{RateLimited}
 use Rattle.station.specs.Station.{Station, pacer_in, paced, enqueued_in, attempt_in}
 use Rattle.guarantees.specs.Book.{Page, Book}
-use Rattle.guarantees.specs.Calls.{Lent, Call, send, Reply, nothing, signal, unchanged, updates, action, Outcome, outcome, State, answered, after, run}
+use Rattle.guarantees.specs.Calls.{Lent, Call, send, action, Outcome, outcome, State, answered, after, run}
 use Rattle.guarantees.specs.Theorem.{Kept, keep, keeps, bucket_in, AllTurnedDown, HeadGoes}
 use Rattle.guarantees.specs.Theorem as theorem
 use Rattle.guarantees.proofs.Changes.{Timed, Cases, by_case, by_send}
 use Rattle.guarantees.proofs.HandIns.{page_view, count_is}
 use Rattle.guarantees.proofs.Paces.{IsTicking, ticking_run}
-use Rattle.guarantees.proofs.Pages.{first_of, SomePool, some_step, kept_to}
+use Rattle.guarantees.proofs.Pages.{SomePool, some_step, kept_to}
 use Rattle.guarantees.proofs.Rosters.{pacer-same}
 use Rattle.guarantees.proofs.Sound.{IsSound}
 use Rattle.guarantees.proofs.Tokens.{GoesAt, wait_enabled, wait_goes}
@@ -71,20 +72,6 @@ still_run s (x ∷ xs) down =
 
 -- ---- a wait told
 
-abbrev is_action : Reply → Bool
-is_action nothing = false
-is_action (signal b) = false
-is_action unchanged = false
-is_action (updates rows) = false
-is_action (action a) = true
-
-abbrev action_in : Reply → SendAction
-action_in nothing = Empty
-action_in (signal b) = Empty
-action_in unchanged = Empty
-action_in (updates rows) = Empty
-action_in (action a) = a
-
 -- what a station answered and left that told pacer i to wait
 record Told (s : Station) (time i wait : ℕ) (t : Station) : Type 0 where
   timed : Timed s time
@@ -97,8 +84,8 @@ told_by_lem :
     → Told s time i wait (outcome s n (send time i lent)).station
 told_by_lem s n time i lent wait =
     by_send s n time i lent (λ o. o.reply ≡ action (RateLimited wait) → Told s time i wait o.station)
-    (λ answer z t e. absurd (true≢false (sym (ap is_action e))))
-    (λ h lo wide e. record { timed = h; seat = lo; told = ap action_in e; left = refl })
+    (λ answer z t e. absurd (cc))
+    (λ h lo wide e. record { timed = h; seat = lo; told = cc; left = refl })
 
 -- ---- the record goes
 
@@ -147,7 +134,7 @@ module _
 
     first_is : (c : Priority) → 0 < waiting_in p.queues c → take 1 ((b i).queues c).waiting ≡ head_of c ∷ []
     first_is c some =
-        ap (take 1) (sym (matches.lists c)) ∙ first_of (waiting m i c p g) nobody (rw (length-waiting m i p g c) some)
+        ap (take 1) (sym (matches.lists c)) ∙ take_more (waiting m i c p g) 0 nobody (rw (length-waiting m i p g c) some)
         ∙ ap (λ (x : Held). x ∷ []) (get_or-waiting m i p g c 0 nobody some)
 
     head_goes : (later : ℕ) → later ≤ 2 ^ 62 → time + wait + 1 ≤ later → HeadGoes (b i) q.tokens wait (action (sent_from q later).1)

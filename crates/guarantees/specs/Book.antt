@@ -6,7 +6,7 @@ use Rattle.config.specs.Refusal.{accepted, queue_full}
 use Rattle.config.specs.declared.config.Priority.{Priority}
 use Rattle.config.specs.declared.config.Priority.TheVariants.{P0, P1, P2}
 use Rattle.queue.specs.declared.entry.InstanceKey.{InstanceKey}
-use Rattle.queue.specs.declared.pool.Limits.{Limits}
+use Rattle.queue.specs.Pool.{Limits}
 use Rattle.pacing.specs.Records.{Held, record_as, place_of}
 use Rattle.pacing.specs.declared.send_action.SendAction.{SendAction}
 use Rattle.pacing.specs.declared.send_action.SendAction.TheVariants.{Send, Empty, RateLimited}

@@ -4,8 +4,9 @@ use Rattle.std.specs.Prelude.{ℕ, Bool, true, false, List, [], ◌∷◌, ◌++
 use Rattle.std.specs.Float.{fin, binary32}
 use Rattle.std.specs.Float.Ieee.{of_int, of_bits, to_bits}
 use Rattle.std.specs.Result.{result_unwrap_or}
+use Rattle.config.specs.Alone.{begun}
 use Rattle.config.specs.Config.{defaults}
-use Rattle.config.specs.Ledger.{opened}
+use Rattle.config.specs.PerClass.{per_class}
 use Rattle.config.specs.Refusal.{accepted, none_number, result_number}
 use Rattle.config.specs.declared.alone.Alone.{Alone}
 use Rattle.config.specs.declared.alone.Left.{Left as CallLeft}
@@ -21,16 +22,15 @@ use Rattle.control.specs.declared.controller_alone.ConfiguredCongestion.{Configu
 use Rattle.control.specs.declared.rate_controller.RateParams.{RateParams}
 use Rattle.queue.specs.Coalescing.{fnv1a}
 use Rattle.queue.specs.Fates.{fate_number}
-use Rattle.queue.specs.Pool.{bytes_of, slots_of}
+use Rattle.queue.specs.Pool.{Limits, bytes_of, slots_of}
 use Rattle.queue.specs.declared.entry.InstanceKey.{InstanceKey}
-use Rattle.queue.specs.declared.pool.Limits.{Limits}
 use Rattle.pacing.specs.TokenBucket.{made, refilled, tried, told}
 use Rattle.pacing.specs.WriterPacer as pacing
-use Rattle.pacing.specs.WriterPacerAlone.{pacer_alone_of, handed_alone, sent_alone}
+use Rattle.pacing.specs.WriterPacerAlone.{configured, handed_alone, sent_alone}
 use Rattle.pacing.specs.declared.token_bucket.TokenBucket.{TokenBucket}
 use Rattle.pacing.specs.declared.send_action.SendAction.{SendAction}
 use Rattle.pacing.specs.declared.send_action.SendAction.TheVariants.{Empty}
-use Rattle.pacing.specs.declared.writer_pacer_alone.WriterPacerAlone.{WriterPacerAlone}
+use Rattle.pacing.specs.declared.writer_pacer_alone.ConfiguredPacer.{ConfiguredPacer}
 use Rattle.signals.specs.Ecn.{codepoint_of, new_processor, processed_tos}
 use Rattle.signals.specs.RttEstimator.{new_estimator, updated, rto_of}
 use Rattle.signals.specs.declared.ecn.EcnCodepoint.{EcnCodepoint}
@@ -118,45 +118,42 @@ received p (x ∷ rest) = received (processed_tos p.0 x) rest
 
 -- the bucket after a step, and what the step leaves to see
 abbrev stepped : TokenBucket → Step → TokenBucket
-stepped b (take time n) = (tried b time n).bucket
-stepped b (wait time n) = (told b time n).bucket
+stepped b (take time n) = (tried b time n).0
+stepped b (wait time n) = (told b time n).0
 stepped b (refill time) = refilled b time
 
 abbrev seen : TokenBucket → Step → Left
-seen b (take time n) = taken (tried b time n).taken (tried b time n).bucket.tokens
-seen b (wait time n) = waits (told b time n).wait (told b time n).bucket.tokens
+seen b (take time n) = taken (tried b time n).1 (tried b time n).0.tokens
+seen b (wait time n) = waits (told b time n).1 (told b time n).0.tokens
 seen b (refill time) = refilled_to (refilled b time).tokens
 
 abbrev walked : TokenBucket → List Step → List Left
 walked b [] = []
 walked b (s ∷ rest) = seen b s ∷ walked (stepped b s) rest
 
-abbrev limits_of : ℕ → ℕ → ℕ → Limits
-limits_of p0 p1 p2 = record { p0 = p0; p1 = p1; p2 = p2 }
-
-abbrev new_pacer : Limits → ℕ → WriterPacerAlone
+abbrev new_pacer : Limits → ℕ → Alone ConfiguredPacer
 new_pacer m r =
-    pacer_alone_of (opened 0) (record { enabled = true; min_rate_bps = 1; max_rate_bps = 1000000000; limits = m }) (pacing.made 0 m r)
+    begun 0 (configured (record { enabled = true; min_rate_bps = 1; max_rate_bps = 1000000000; limits = m }) (pacing.made 0 m r))
 
 -- a pool that is just long enough
-abbrev pool_bytes : WriterPacerAlone → ℕ
-pool_bytes a = bytes_of (slots_of a.config.limits)
+abbrev pool_bytes : Alone ConfiguredPacer → ℕ
+pool_bytes a = bytes_of (slots_of a.inner.config.limits)
 
 abbrev key_number : ℕ → InstanceKey
 key_number k = record { topic_hash = k; key_hash = 0 }
 
-abbrev acted : WriterPacerAlone → Act → WriterPacerAlone
+abbrev acted : Alone ConfiguredPacer → Act → Alone ConfiguredPacer
 acted a (hand c key n) = (handed_alone a (pool_bytes a) 0 c (key_number key) n).state
 acted a send = (sent_alone a (pool_bytes a) 0).state
 
-abbrev came_of : CallLeft WriterPacerAlone SendAction → Answer
+abbrev came_of : CallLeft (Alone ConfiguredPacer) SendAction → Answer
 came_of x = came (result_number pacing.action_number x.answer) (pacing.action_values (result_unwrap_or x.answer Empty))
 
-abbrev answers : WriterPacerAlone → Act → Answer
+abbrev answers : Alone ConfiguredPacer → Act → Answer
 answers a (hand c key n) = answered (result_number fate_number (handed_alone a (pool_bytes a) 0 c (key_number key) n).answer)
 answers a send = came_of (sent_alone a (pool_bytes a) 0)
 
-abbrev performed : WriterPacerAlone → List Act → List Answer
+abbrev performed : Alone ConfiguredPacer → List Act → List Answer
 performed a [] = []
 performed a (x ∷ rest) = answers a x ∷ performed (acted a x) rest
 
@@ -199,7 +196,7 @@ outcome (packets xs) = signals (received (new_processor, false) xs)
 outcome (tos x) = codepoint (codepoint_of x)
 outcome (bytes xs) = hash (fnv1a xs)
 outcome (bucket r n xs) = steps (walked (made 0 r n) xs)
-outcome (pacer p0 p1 p2 r xs) = acts (performed (new_pacer (limits_of p0 p1 p2) r) xs)
+outcome (pacer p0 p1 p2 r xs) = acts (performed (new_pacer (per_class p0 p1 p2) r) xs)
 outcome (controller p xs) = turns (steered (made_of (config_with p) 0) xs)
 
 -- ---- the table

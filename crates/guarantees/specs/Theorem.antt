@@ -8,10 +8,9 @@ use Rattle.config.specs.declared.config.CongestionConfig.{CongestionConfig}
 use Rattle.config.specs.declared.config.Priority.{Priority}
 use Rattle.config.specs.declared.config.Priority.TheVariants.{P0, P1, P2}
 use Rattle.control.specs.declared.budget_allocator.WriterInfo.{WriterInfo}
-use Rattle.queue.specs.Pool.{is_short, limits_of, slot_start}
+use Rattle.queue.specs.Pool.{Limits, is_short, limits_of, slot_start}
 use Rattle.queue.specs.declared.entry.InstanceKey.{InstanceKey}
 use Rattle.queue.specs.declared.entry.KeyedEntry.{KeyedEntry}
-use Rattle.queue.specs.declared.pool.Limits.{Limits}
 use Rattle.pacing.specs.Counts.{count_in}
 use Rattle.pacing.specs.Records.{Held, waiting}
 use Rattle.pacing.specs.TokenBucket.{wait_of}

@@ -1,4 +1,5 @@
 -- The absolute value is what the pattern without its sign bit means. The format is a parameter. Assumes nothing.
+-- Stays: what `abs_f32` cites; std has nothing of a pattern without its sign bit.
 use Rattle.std.proofs.Common.{◌≡◌, ℕ, zero, suc, ◌+◌, ◌*◌, ◌%◌, ◌<◌, Bool, true, false, not, T, ℤ, sym, refl, ap, ◌∙◌, subst, true≢false, mod-eq_of_lt, one-mul, arith}
 use lib.Arith.{digits_mod}
 use lib.Ieee.{Float, Format, nan, inf, fin, hid, ones, top, is_nan, fits, of_bits, to_bits, nan_bits}

@@ -1,6 +1,7 @@
 -- A fraction to the nearest whole number, from its quotient by half the divisor: the last digit of that quotient rounds, and what is left below it breaks ties.
 -- And the digits of a float times 5 ^ 9 over a power of two, as `nearest_scaled` works them out. Assumes nothing.
-use Rattle.std.proofs.Common.{◌≡◌, ℕ, suc, ◌+◌, ◌*◌, ◌/◌, ◌%◌, ◌^◌, ◌<◌, ◌≤◌, not, T, eqb, sym, refl, ap, ◌∙◌, subst, mod-lt, mul_comm, mul-pos, div-le_self, arith, eqb→eq, leb→le, pow_pos, pow-add}
+-- Stays: what `nearest_scaled`, Halves and Nanoseconds cite; std has the order of `closest`, and nothing of its digits.
+use Rattle.std.proofs.Common.{◌≡◌, ℕ, suc, ◌+◌, ◌*◌, ◌/◌, ◌%◌, ◌^◌, ◌<◌, ◌≤◌, not, T, eqb, sym, refl, ap, ◌∙◌, subst, mod-lt, mul_comm, mul-pos, arith, eqb→eq, leb→le, pow_pos, pow-add}
 use Prim.Native.Nat.{compare, Ordering}
 use native.Mathlib.Nat.{div-div-eq-div-mul}
 use lib.Arith.{lt_of_le-ne, mod-mul}
@@ -22,26 +23,20 @@ cmp a b = go (compare a b) (leb→le a b) (nleb→lt a b) (eqb→eq a b) (λ (e 
     go Ordering.eq h k e n = e tt
     go Ordering.gt h k e n = k tt
 
-two_ways : (a b : ℕ) → a < b → b < a → ⊥
-two_ways a b h k = omega arith
-
-never : (a b : ℕ) → a < b → a ≡ b → ⊥
-never a b h k = omega arith
-
 pub less : (q a b : ℕ) (o : Ordering) → Cmp o a b → a < b → nearest q o ≡ q
 less q a b Ordering.lt h k = refl
-less q a b Ordering.eq h k = absurd (never a b k h)
-less q a b Ordering.gt h k = absurd (two_ways a b k h)
+less q a b Ordering.eq h k = absurd (omega arith)
+less q a b Ordering.gt h k = absurd (omega arith)
 
 more : (q a b : ℕ) (o : Ordering) → Cmp o a b → b < a → nearest q o ≡ suc q
-more q a b Ordering.lt h k = absurd (two_ways a b h k)
-more q a b Ordering.eq h k = absurd (never b a k (sym h))
+more q a b Ordering.lt h k = absurd (omega arith)
+more q a b Ordering.eq h k = absurd (omega arith)
 more q a b Ordering.gt h k = refl
 
 same : (q a b : ℕ) (o : Ordering) → Cmp o a b → a ≡ b → nearest q o ≡ q + q % 2
-same q a b Ordering.lt h k = absurd (never a b h k)
+same q a b Ordering.lt h k = absurd (omega arith)
 same q a b Ordering.eq h k = refl
-same q a b Ordering.gt h k = absurd (never b a h (sym k))
+same q a b Ordering.gt h k = absurd (omega arith)
 
 -- ---- n / (2 * H), from t = n / H, whose last digit is the round bit, and n % H
 module _ (n H : ℕ) (P : 0 < H) where
@@ -127,13 +122,3 @@ module _ (d k h : ℕ) (e : h ≡ 2 ^ k) where
 
   pub odd_bit : high_part d / h % 2 ≡ 1 → 0 < high_part d % h * 2048 + low_part d % 2048 → high_part d / h / 2 + 1 ≡ closest (d * 1953125) (2 ^ (12 + k))
   odd_bit z a = sym (at ∙ up_at (d * 1953125) (h * 2048) pos-H (bit 1 z) (subst (λ (y : ℕ). 0 < y) (sym rem) a) ∙ ap (λ (y : ℕ). y / 2 + 1) quot)
-
--- ---- what the code's sums need
-pub small : (d h : ℕ) → d < 9007199254740992 → high_part d / h < 9223372036854775808
-small d h l = le_lt (high_part d / h) (high_part d) (div-le_self (high_part d) h) (go d l)
-  where
-    go : (d : ℕ) → d < 9007199254740992 → high_part d < 9223372036854775808
-    go d l = omega arith
-
-    le_lt : (a b : ℕ) → a ≤ b → b < 9223372036854775808 → a < 9223372036854775808
-    le_lt a b h k = omega arith

@@ -1,4 +1,5 @@
 -- Relative errors: `Within p v n` says that v and n differ by at most the p-th part of n. How such errors add up, and what they leave of whole numbers. Assumes nothing.
+-- Stays: what Roundings, Seconds and the credit's laws cite (pacing/proofs/Credit, Waits); std has no relative errors.
 use Rattle.std.proofs.Common.{◌≡◌, ℕ, suc, ◌+◌, ◌*◌, ◌<◌, ◌≤◌, sym, ap, ◌∙◌, subst, le_trans, le_of_eq, lt_of_lt_of_le, le_of_suc-le-suc, mul-le-mul_right, mul_assoc, suc-mul, mul_comm, add-mul, lt_of_mul-lt-mul_right, mul-le-mul_left, mul-lt-mul_of_pos_right, mul-pos, mul-one, mul-suc, mul_right_comm, le_of_mul-le-mul_right, mul_left_comm, arith}
 use native.Mathlib.Nat.{mul-mul-mul_comm}
 use Rattle.numeric.proofs.Halves.{Half}

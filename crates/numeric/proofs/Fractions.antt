@@ -1,4 +1,5 @@
 -- The quotient and the order of two values that are not negative, by any fractions that they equal, and what the cast to an integer makes of one. The format is a parameter. Assumes nothing.
+-- Stays: what Units, Truncation, Nanoseconds and the credit's laws cite; std's laws of quotients and orders are of positive values or of rounded ones.
 use Rattle.std.proofs.Common.{◌≡◌, ℕ, ◌-◌, ◌*◌, ◌/◌, ◌^◌, ◌<◌, ◌≤◌, min, Bool, true, false, ◌&&◌, ◌||◌, T, eqb, ltb, sym, ap, ◌∙◌, subst, true≢false, le_of_eq, le_of_lt, lt_irrefl, mul_assoc, mul_comm, mul-pos, mul_left_comm, eqb→eq, ltb→lt, ne_eqb}
 use lib.Ieee.{Float, nan, inf, fin, Format, up, down, div, round, le, to_unsigned}
 use lib.Ieee.Exact.{HasValue}

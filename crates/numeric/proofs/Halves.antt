@@ -1,4 +1,5 @@
 -- The nearest whole number to a fraction n / u is at most a half away from it. Assumes nothing.
+-- Stays: what Errors, Roundings, Units and the wait's laws cite; std has the order of `closest`, and not how far it is from the fraction.
 use Rattle.std.proofs.Common.{◌≡◌, ℕ, zero, suc, ◌+◌, ◌*◌, ◌/◌, ◌%◌, ◌<◌, ◌≤◌, mul-le-mul_right, mod-lt, suc-mul, add-mul, one-mul, div-add-mod', zero-mul, arith}
 use Prim.Native.Nat.{compare, Ordering}
 use lib.Ieee.{nearest}

@@ -2,6 +2,7 @@ pub mod Products
 pub mod Patterns
 pub mod Absolute
 pub mod Values
+pub mod Literals
 pub mod Nearest
 pub mod Truncation
 pub mod Closest

@@ -1,15 +1,18 @@
 -- Seconds in nanoseconds: 10 ^ 9 is 5 ^ 9 * 2 ^ 9, so x * 10 ^ 9 is the digits of x times 5 ^ 9, over a power of two. Assumes nothing.
+-- Stays: what `from_secs_f64` cites; std has nothing of a float in nanoseconds.
 use Rattle.std.proofs.Common.{◌≡◌, ℕ, suc, ◌+◌, ◌-◌, ◌*◌, ◌/◌, ◌%◌, ◌^◌, ◌<◌, ◌≤◌, true, false, not, T, eqb, ltb, negsuc, sym, refl, ap, ◌∙◌, subst, mod-eq_of_lt, mul_assoc, one-mul, mul-one, mul_right_comm, arith, lit≤, nltb→le, pow_pos, pow-add, le-ltb, lt-ltb}
+use Rattle.std.specs.Float.{two_to}
 use Prim.Native.Nat.{compare}
 use native.Mathlib.Nat.{div-eq_of_lt, eq_of_mul-eq-mul_right}
-use lib.Ieee.{Float, nan, inf, fin, binary64, hid, up, down, fits, lt, le, eq, to_bits}
+use lib.Ieee.{Float, nan, inf, fin, binary64, hid, up, down, fits, is_nan, lt, le, eq, to_bits}
 use lib.Ieee.Fits.{down_pos}
 use lib.Ieee.Nearest.{closest, closest_same}
 use lib.Ieee.Positive.{num, den, positive, den_pos, above_of_le}
 use Rattle.numeric.specs.Duration.{nanos_of}
 use Rattle.numeric.proofs.Closest.{cmp, less}
 use Rattle.numeric.proofs.Fractions.{both-le}
-use Rattle.numeric.proofs.Truncation.{Within, two_to, neither, b, q, j, v, field, lower, upper}
+use Rattle.numeric.proofs.Literals.{least_f64, two_to_32_f64}
+use Rattle.numeric.proofs.Truncation.{Within, within-small, below_it, neither, b, q, j, v, field, lower, upper}
 
 abbrev pub least : Float
 least = fin false 1 (negsuc 30)
@@ -20,7 +23,11 @@ in_range (inf s) p h = absurd p
 in_range (fin true m e) p h = absurd p
 in_range (fin false m e) p h = simp (lt-ltb (m * up e) (2 ^ 32 * down e) h)
 
-module _ (x : Float) (F : T (fits binary64 x)) (i : Within 31 32 x) where
+module _ (x : Float) (F : T (fits binary64 x)) (over : T (le least x)) (under : T (not (le (two_to 32) x))) where
+  i : Within 31 32 x
+  unfolding is_nan
+  i = within-small 30 32 x over (below_it least x (two_to 32) tt over under)
+
   abbrev bits : ℕ
   bits = to_bits binary64 x
 
@@ -111,3 +118,6 @@ too_long (inf false) h = refl
 too_long (fin true m e) h = absurd (above_of_le (two_to 32) (fin true m e) tt h)
 too_long (fin false m e) h =
     sym (simp (le-ltb (m * up e) (2 ^ 32 * down e) (simp (mul-one, one-mul) at (both-le (1 * 2 ^ 32 * down e) (m * up e * 1) h))))
+
+-- what the goals of `from_secs_f64` cite
+pub ruleset waits = (least_f64, two_to_32_f64, e_le, nanos_are, too_small, too_long)

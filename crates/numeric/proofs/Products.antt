@@ -1,4 +1,5 @@
 -- Products of numbers in two halves, with the half's size as a parameter. Assumes nothing.
+-- Stays: what `wrapping_mul` cites; std has no product by halves.
 use Rattle.std.proofs.Common.{◌≡◌, ℕ, ◌+◌, ◌*◌, ◌/◌, ◌%◌, sym, ap, ◌∙◌, add_assoc, mul_assoc, mul_comm, add-mul, div-add-mod', mul-add, mul_left_comm}
 use native.Mathlib.Nat.{add-mod, mul-add-mod_self_right}
 

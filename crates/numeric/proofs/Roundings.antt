@@ -1,5 +1,6 @@
 -- How far rounding goes. `grid f a c` is a / c rounded, in units of the format's smallest value 2 ^ -low, so exactly it would be a * 2 ^ low / c.
 -- In the normal range the two differ by at most a 2 ^ prec-th part of the exact one. Whole multiples of the smallest value do so in any range. The format is a parameter. Assumes nothing.
+-- Stays: what Seconds and the laws of credits and waits cite (pacing/proofs); std does not say how far a rounding goes.
 use Rattle.std.proofs.Common.{◌≡◌, ℕ, zero, suc, ◌+◌, ◌-◌, ◌*◌, ◌/◌, ◌^◌, ◌<◌, ◌≤◌, Bool, true, false, not, T, leb, sym, ap, ◌∙◌, subst, le_trans, le_of_eq, mul_assoc, suc-mul, mul_comm, add-mul, mul-pos, pow-suc, le-div_iff_mul-le, zero-mul, mul-one, mul_right_comm, le_of_mul-le-mul_right, mul-div_cancel, arith, leb→le, pow_pos, pow-add}
 use lib.Dec.{nleb→lt}
 use lib.Ieee.{Format, prec, low, size}

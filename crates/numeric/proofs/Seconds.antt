@@ -1,4 +1,5 @@
 -- `seconds_of` in units of 2 ^ -1074 seconds: how far its two roundings go, and that a later time is no fewer seconds. And `nanos_of` of a value, by any fraction that it equals. Assumes nothing.
+-- Stays: what the laws of credits and waits cite (pacing/proofs/Credit, Waits); std has nothing of these roundings.
 use Rattle.std.proofs.Common.{◌≡◌, ℕ, suc, ◌+◌, ◌*◌, ◌/◌, ◌%◌, ◌^◌, ◌<◌, ◌≤◌, true, false, pos, sym, refl, ap, ◌∙◌, subst, inl, inr, true≢false, le_of_eq, lt_of_lt_of_le, mul-le-mul_right, suc-mul, lt_of_mul-lt-mul_right, eq-or-lt_of_le, mul-lt-mul_of_pos_right, div-add-mod', mul_right_comm, arith, lit≤, pow_pos, lt-ltb}
 use lib.Ieee.{Float, nan, inf, fin, binary64, emax, low, up, down, div, of_int, of_bits}
 use lib.Ieee.Exact.{HasValue}

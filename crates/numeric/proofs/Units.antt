@@ -1,5 +1,6 @@
 -- Roundings in units of the format's smallest value, 2 ^ -low: sums, products with a whole number and quotients of whole numbers, as long as nothing overflows.
 -- `Roundings` says how far each is from the exact result. The format is a parameter. Assumes nothing.
+-- Stays: what Seconds and the laws of credits and waits cite; std has the rounding in units (`grid`), and not the sums and products in them.
 use Rattle.std.proofs.Common.{ℕ, suc, ◌+◌, ◌*◌, ◌^◌, ◌<◌, ◌≤◌, false, sym, ap, ◌∙◌, subst, le_trans, le_of_eq, lt_of_lt_of_le, lt_of_le_of_lt, zero-lt-suc, mul_assoc, mul_comm, lt_of_mul-lt-mul_right, mul-lt-mul_of_pos_right, mul-pos, one-mul, mul-one, mul_right_comm, le_of_mul-le-mul_right, pow_pos, pow-add}
 use lib.Ieee.{Float, Format, prec, emax, low, round, add, mul, div}
 use lib.Ieee.Back.{round_whole}

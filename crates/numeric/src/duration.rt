@@ -14,6 +14,7 @@ pub fn as_secs_f64(nanos: u64) -> f64
 
 // A wait in nanoseconds, to the nearest, ties to even: Rust's `Duration::from_secs_f64`.
 // Where that panics it answers 0 below zero and for a NaN; from 2^32 seconds on it answers the largest u64.
+#[tactic(auto, using(crate::proofs::Nanoseconds::waits))]
 pub fn from_secs_f64(secs: f64) -> u64
     ensures { result ≡ nanos_of secs }
 {
@@ -29,6 +30,7 @@ pub fn from_secs_f64(secs: f64) -> u64
 
 // A float's digits times 5^9 over 2^(12 + shift), to the nearest whole number, a tie to the even one; shift counts modulo 64.
 // The product has up to 74 binary digits, so it is worked out in two parts.
+#[tactic(auto, using(crate::proofs::Closest::even_bit, crate::proofs::Closest::odd_bit, crate::proofs::Closest::tie_bit))]
 fn nearest_scaled(bits: u64, shift: u64) -> u64
     ensures { result ≡ closest ((4503599627370496 + bits % 4503599627370496) * 1953125) (2 ^ (12 + shift % 64)) }
 {

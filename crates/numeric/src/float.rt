@@ -8,7 +8,8 @@ ghost use Rattle.numeric.specs.Float.{scaled, max_of, clamp_of, abs_of};
 
 // The nearest f32 of a rate, ties to even: Rust's `n as f32`.
 // Each half of n is a float exactly, and so is the upper half times 2^16; only the sum rounds.
-// Stays: it and `f64_of_u64` are a line each, and one generic function would need more to name its operators, its cast and its distance.
+// Stays: [2] it and `f64_of_u64` are a line each; a generic one would need a trait for the cast, the sum, the product and the constant.
+#[tactic(auto, using(crate::proofs::Nearest::halves, crate::proofs::Literals::two_to_16_f32))]
 pub fn f32_of_u32(n: u32) -> f32
     ensures { result ≡ Ieee.of_int binary32 (pos n) }
 {
@@ -16,7 +17,8 @@ pub fn f32_of_u32(n: u32) -> f32
 }
 
 // The nearest f64 of a count of bytes or nanoseconds, ties to even: Rust's `n as f64`.
-// Stays: as `f32_of_u32`.
+// Stays: [2] as `f32_of_u32`.
+#[tactic(auto, using(crate::proofs::Nearest::halves, crate::proofs::Literals::two_to_32_f64))]
 pub fn f64_of_u64(n: u64) -> f64
     ensures { result ≡ Ieee.of_int binary64 (pos n) }
 {
@@ -25,7 +27,8 @@ pub fn f64_of_u64(n: u64) -> f64
 
 // The whole part of a rate or a share: Rust's `x as u32`, which cuts the fraction, stops at the ends of u32 and gives 0 for a NaN.
 // From 1 on, x is its digits under a leading one, put at the top of a word and shifted down by what the exponent's field says.
-// Stays: `u64_of_f64(x.into()).min(u32::MAX as u64) as u32` proves, but takes a decrease, which is to be no slower than the Rust's, 1.6 ns more in 6.7.
+// Stays: [2] by way of the f64 (`u64_of_f64(x.into()).min(u32::MAX as u64) as u32`, which proves) it hides which bits are read, and a decrease takes 1.6 ns more in 6.7.
+#[tactic(auto, using(crate::proofs::Truncation::cuts))]
 pub fn u32_of_f32(x: f32) -> u32
     ensures { result ≡ Ieee.to_unsigned 32 x }
 {
@@ -42,7 +45,8 @@ pub fn u32_of_f32(x: f32) -> u32
 }
 
 // The whole part of a credit: Rust's `x as u64`, cut and stopped likewise.
-// Stays: as `u32_of_f32`; a function over patterns of both formats would be a third, of as many lines.
+// Stays: [2] the digits, exponents and widths of the two formats all differ; one function over both would take five numbers along.
+#[tactic(auto, using(crate::proofs::Truncation::cuts))]
 pub fn u64_of_f64(x: f64) -> u64
     ensures { result ≡ Ieee.to_unsigned 64 x }
 {
@@ -87,6 +91,7 @@ pub fn clamp_f32(x: f32, low: f32, high: f32) -> f32
 }
 
 // The size of a difference, as Rust's `f32::abs`: the sign bit is cleared, that of -0.0 too. A NaN stays one.
+#[tactic(auto, using(crate::proofs::Absolute::abs_pattern, crate::proofs::Absolute::abs_bits, crate::proofs::Absolute::abs_nan))]
 pub fn abs_f32(x: f32) -> f32
     ensures { result ≡ abs_of x }
 {

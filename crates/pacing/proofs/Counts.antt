@@ -1,4 +1,5 @@
 -- A hand-in and a send attempt add to their pacer's counts what they say, where nothing saturates. Assumes nothing.
+-- Stays: what guarantees/proofs/Sound cites; these are a pacer's own counts.
 use Rattle.std.proofs.Common.{◌≡◌, ℕ, zero, suc, ◌+◌, ◌≤◌, ◌<◌, min, Bool, true, false, ltb, length, Option, Some, None, refl, sym, subst, arith}
 use mathlib.Core.Logic.{◌≢◌}
 use Rattle.config.specs.declared.config.Priority.{Priority}
@@ -17,8 +18,6 @@ use Rattle.pacing.specs.declared.pacer_counts.PacerCounts.{PacerCounts}
 use Rattle.pacing.specs.declared.send_action.SendAction.{SendAction}
 use Rattle.pacing.specs.declared.send_action.SendAction.TheVariants.{Send, Empty, RateLimited}
 use Rattle.pacing.specs.declared.token_bucket.TokenBucket.{TokenBucket}
-use Rattle.pacing.specs.declared.token_bucket.Told.{Told}
-use Rattle.pacing.specs.declared.token_bucket.Tried.{Tried}
 
 -- ---- one count
 
@@ -147,11 +146,11 @@ still_gone p P2 b t =
     by_test (λ (q : Coalescing). (p.counts ≡ p.counts) × (q.coalesced ≡ p.queues.p2.coalesced) × (q.dropped ≡ p.queues.p2.dropped))
     (ltb 0 (length p.queues.p2.waiting.items)) (λ e. (refl, refl, refl)) (λ e. (refl, refl, refl))
 
-still_p0 : (p : Pacer) (time n : ℕ) (x : Tried) → Still p (by_p0 p time n x)
-still_p0 p time n x = by_test (Still p) x.taken (λ e. still_gone p P0 x.bucket false) (λ e. still_gone p P0 (forced x.bucket time n) true)
+still_p0 : (p : Pacer) (time n : ℕ) (x : TokenBucket × Bool) → Still p (by_p0 p time n x)
+still_p0 p time n x = by_test (Still p) x.1 (λ e. still_gone p P0 x.0 false) (λ e. still_gone p P0 (forced x.0 time n) true)
 
-still_waited : (p : Pacer) (x : Told) → Still p (waited_by p x)
-still_waited p x = by_test (Still p) (ltb 0 x.wait) (λ e. (refl, refl, refl)) (λ e. (refl, refl, refl))
+still_waited : (p : Pacer) (x : TokenBucket × ℕ) → Still p (waited_by p x)
+still_waited p x = by_test (Still p) (ltb 0 x.1) (λ e. (refl, refl, refl)) (λ e. (refl, refl, refl))
 
 still_limited : (p : Pacer) (time : ℕ) → Still p (limited p time)
 unfolding limited waited
@@ -159,11 +158,11 @@ still_limited p time =
     by_test (Still p) (ltb 0 (waiting_in p.queues P1)) (λ e. still_waited p (told p.tokens time (front_of p.queues P1).length))
     (λ e. by_test (Still p) (ltb 0 (waiting_in p.queues P2)) (λ e. still_waited p (told p.tokens time (front_of p.queues P2).length)) (λ e. (refl, refl, refl)))
 
-still_p2 : (p : Pacer) (time : ℕ) (x : Tried) → Still p (by_p2 p time x)
-still_p2 p time x = by_test (Still p) x.taken (λ e. still_gone p P2 x.bucket false) (λ e. still_limited (with_tokens p x.bucket) time)
+still_p2 : (p : Pacer) (time : ℕ) (x : TokenBucket × Bool) → Still p (by_p2 p time x)
+still_p2 p time x = by_test (Still p) x.1 (λ e. still_gone p P2 x.0 false) (λ e. still_limited (with_tokens p x.0) time)
 
-still_p1 : (p : Pacer) (time : ℕ) (x : Tried) → Still p (by_p1 p time x)
-still_p1 p time x = by_test (Still p) x.taken (λ e. still_gone p P1 x.bucket false) (λ e. still_p2 p time (paid x.bucket p.queues P2 time))
+still_p1 : (p : Pacer) (time : ℕ) (x : TokenBucket × Bool) → Still p (by_p1 p time x)
+still_p1 p time x = by_test (Still p) x.1 (λ e. still_gone p P1 x.0 false) (λ e. still_p2 p time (paid x.0 p.queues P2 time))
 
 still : (p : Pacer) (time : ℕ) → Still p (attempt p time)
 unfolding attempt attempt_p0

@@ -1,4 +1,5 @@
 -- A credit, as far as a capacity counts it, is at most one byte more than the rate allows, and not much less; a later time gives no less; and one nanosecond after a told wait it is enough. Assumes nothing.
+-- Stays: what guarantees/proofs/Tokens cites, and the bounds that docs/GUARANTEES.md names; std does not say how far a rounded product goes.
 use Prim.Native.Nat.{ℕ, suc, ◌+◌, ◌-◌, ◌*◌, ◌/◌, ◌^◌, ◌≤◌, ◌<◌, min}
 use mathlib.Core.Bool.{Bool, true, false, not}
 use mathlib.Core.Path.{◌≡◌, refl, sym, ◌∙◌, subst}
@@ -116,10 +117,12 @@ pub credit-at_most : (nanos rate cap : ℕ) → 1 ≤ rate → rate ≤ 10000000
 credit-at_most nanos rate cap P R C = credit_by 1000000000 nanos rate cap (omega arith) P (omega arith) (omega arith)
 
 -- nothing more, for a capacity up to a million
+-- Stays: docs/GUARANTEES.md names it.
 pub credit-at_most-small : (nanos rate cap : ℕ) → 1 ≤ rate → rate ≤ 1000000000 → cap ≤ 1000000 → min (credit nanos rate) cap * 1000000000 ≤ rate * nanos
 credit-at_most-small nanos rate cap P R C = omega (arith, credit_by 0 nanos rate cap (omega arith) P (omega arith) (omega arith))
 
 -- at most two bytes less, where it is up to 2 ^ 50
+-- Stays: docs/GUARANTEES.md names it.
 pub credit_at_least : (nanos rate : ℕ) → 1 ≤ rate → rate ≤ 1000000000 → rate * nanos ≤ 2 ^ 50 * 1000000000 → rate * nanos ≤ (credit nanos rate + 2) * 1000000000
 credit_at_least nanos rate P R X = omega (arith, credit_below 1000000000 nanos rate (omega arith) P (omega arith) (omega arith))
 
@@ -178,11 +181,13 @@ pub wait_enough : (bytes rate nanos : ℕ) → 1 ≤ rate → rate ≤ 100000000
 wait_enough bytes rate nanos P R N D l = enough bytes rate nanos P (omega arith) (omega arith) (omega arith) l
 
 -- that nanosecond is needed: 59 bytes at 3,643,934 a second are told 16,191 ns, where the credit is 58
+-- Stays: docs/GUARANTEES.md names it.
 pub wait_short : (wait_of 59 3643934 ≡ 16191) × (credit 16191 3643934 ≡ 58)
 unfolding wait_of credit add mul div of_int of_bits to_unsigned
 wait_short = (refl, refl)
 
 -- and a credit can be above the exact one: 885,105,339 * 96,904,233 is 13 less than 85,770,454 * 10 ^ 9
+-- Stays: docs/GUARANTEES.md names it.
 pub credit-over : credit 96904233 885105339 ≡ 85770454
 unfolding credit add mul div of_int of_bits to_unsigned
 credit-over = refl

@@ -1,5 +1,6 @@
 -- What makes a pacer: queues that there is room for, and settings that have such limits. Assumes nothing.
-use Rattle.std.proofs.Common.{◌≡◌, ◌≤◌, ℕ, Bool, true, false, true≢false, ◌||◌, cond, ltb, Option, Some, None, Result, Ok, refl, sym, ap, ◌∙◌, arith}
+-- Stays: what `WriterPacer::new` and `with_rate` cite; these are the settings' own limits.
+use Rattle.std.proofs.Common.{◌≡◌, ◌≤◌, ℕ, Bool, true, false, true≢false, ◌||◌, cond, ltb, Option, Some, None, Ok, refl, ap, arith}
 use Rattle.std.proofs.lemmas.Bool.{le-leb, or_parts, ltb-false}
 use Rattle.std.specs.Option.{unwrap_or, is_some}
 use Rattle.config.proofs.Refusals.{none_where_accepted}
@@ -7,9 +8,8 @@ use Rattle.config.specs.Config.{rates_beyond, floats_beyond, limit_beyond, queue
 use Rattle.config.specs.Refusal.{verdict_of}
 use Rattle.config.specs.declared.config.CongestionConfig.{CongestionConfig}
 use Rattle.config.specs.declared.refusal.Refusal.TheVariants.{SettingsBeyond}
-use Rattle.queue.specs.Pool.{limit_of, limits_of}
+use Rattle.queue.specs.Pool.{Limits, limit_of, limits_of}
 use Rattle.queue.specs.Waiting.{limit_fits}
-use Rattle.queue.specs.declared.pool.Limits.{Limits}
 use Rattle.pacing.specs.TokenBucket as bucket
 use Rattle.pacing.specs.WriterPacer.{Queues, Pacer, pacer_of, new_queues, queues_made, fits, made, made_in, burst_of, no_counts}
 use Rattle.pacing.specs.WriterPacerAlone.{making_checks}
@@ -50,7 +50,7 @@ pub settings-fit :
 settings-fit c e = limits-fit c (or_parts (floats_beyond c) (queues_beyond c) (or_parts (rates_beyond c) _ e).1).1
 
 -- what is accepted finds room
-pub made-always :
+pub made_always :
     (c : CongestionConfig) (time rate : ℕ) → verdict_of (making_checks c time rate) ≡ Ok tt
     → made_in 128 512 128 time (limits_of c) rate ≡ Some (made time (limits_of c) rate)
-made-always c time rate e = rw (settings-fit c (none_where_accepted (making_checks c time rate) e SettingsBeyond)) refl
+made_always c time rate e = rw (settings-fit c (none_where_accepted (making_checks c time rate) e SettingsBeyond)) refl

@@ -1,4 +1,5 @@
 -- A bucket left at rate 0 is credited nothing, and the wait told is the largest u64: what the definitions give. Assumes nothing.
+-- Stays: the two theorems on rate 0, which docs/GUARANTEES.md names, and what they cite; std has no product with 0 and no quotient by 0.
 use Prim.Native.Nat.{ℕ, zero, suc, ◌+◌, ◌-◌, ◌*◌, ◌/◌, ◌^◌, ◌≤◌, ◌<◌, min}
 use mathlib.Core.Bool.{Bool, true, false, true≢false}
 use mathlib.Core.Path.{◌≡◌, refl, sym, ap, ◌∙◌}
@@ -15,6 +16,7 @@ use Rattle.numeric.specs.Duration.{seconds_of, nanos_of}
 use Rattle.pacing.specs.TokenBucket.{credit, wait_of}
 
 -- a value of 0 is cut to 0
+-- Stays: `times_nought` stands on it.
 cut_nought : (w : ℕ) (x : Float) (s : Bool) (d : ℕ) → 0 < d → HasValue x s 0 d → to_unsigned w x ≡ 0
 unfolding to_unsigned
 cut_nought w nan s d D h = absurd h
@@ -34,10 +36,12 @@ cut_nought w (fin false m e) s d D h = ap (λ (k : ℕ). min (k / down e) (2 ^ w
         go k = omega arith
 
 -- nothing over d rounds to a value of 0
+-- Stays: `times_nought` stands on it.
 round_nought : (f : Format) (s : Bool) (d : ℕ) → 0 < d → HasValue (round f s 0 d) s 0 d
 round_nought f s d D = round_exact f s 0 d 0 0 D (pow_pos (prec f)) (pow_pos (low f + suc (emax f))) (zero-mul (2 ^ low f) ∙ sym (zero-mul d))
 
 -- a product with 0 is cut to 0, whatever the other factor is
+-- Stays: `credit_at_rate-zero` stands on it.
 times_nought : (f : Format) (w : ℕ) (x : Float) → to_unsigned w (mul f x (fin false 0 (pos 0))) ≡ 0
 unfolding mul to_unsigned
 times_nought f w nan = refl
@@ -50,11 +54,13 @@ times_nought f w (fin s m e) =
     D = mul-pos (down_pos e) (zero-lt-suc 0)
 
 -- "it is credited nothing"
+-- Stays: docs/GUARANTEES.md names it.
 pub credit_at_rate-zero : (nanos : ℕ) → credit nanos 0 ≡ 0
 unfolding credit of_int
 credit_at_rate-zero nanos = times_nought binary64 64 (seconds_of nanos)
 
 -- a value above 0, divided by 0, takes forever
+-- Stays: `wait_at_rate-zero` stands on it.
 over_nought : (x : Float) (n : ℕ) → 0 < n → HasValue x false n 1 → nanos_of (div binary64 x (fin false 0 (pos 0))) ≡ 18446744073709551615
 unfolding div
 over_nought nan n N h = absurd h
@@ -67,6 +73,7 @@ over_nought (fin false zero e) n N h = absurd (never (up e) n (down e) (mul-pos 
     never u n d p q = omega arith
 
 -- "the wait told is the largest u64", for every count of bytes in the domain and beyond
+-- Stays: docs/GUARANTEES.md names it.
 pub wait_at_rate-zero : (bytes : ℕ) → 0 < bytes → bytes ≤ 2 ^ 53 → wait_of bytes 0 ≡ 18446744073709551615
 unfolding wait_of of_int
 wait_at_rate-zero bytes B h = over_nought (of_int binary64 (pos bytes)) bytes B (of_int_value binary64 bytes h)

@@ -1,4 +1,5 @@
 -- A pacer's queues hold what its book has, byte for byte, whatever was handed in and sent before. Assumes nothing.
+-- Stays: the theorems `all_shown` and `kept-to_the_byte`, which docs/GUARANTEES.md names, and what guarantees/proofs cite; this is the pacer's own book.
 use Prim.Native.Nat.{ℕ, ◌+◌, ◌*◌, ◌≤◌, ◌<◌}
 use mathlib.Core.Bool.{Bool, true, false, cond, not}
 use mathlib.Core.List.{List, [], ◌∷◌, map}
@@ -22,19 +23,18 @@ use Rattle.queue.proofs.Pools.{queue_number}
 use Rattle.queue.specs.Coalescing.{Coalescing, replaced_at, joined_tail, popped_front}
 use Rattle.queue.specs.Entries.{entry_of, keyed_entry, no_entry, no_keyed_entry, has_key}
 use Rattle.queue.specs.Fates.{is_full, refused}
-use Rattle.queue.specs.Pool.{piece, stored, bytes_of, limit_in, slots_of, slot_start}
+use Rattle.queue.specs.Pool.{Limits, piece, stored, bytes_of, limit_in, slots_of, slot_start}
 use Rattle.queue.specs.Waiting.{Waiting, has_room, popped, joined, joins, kept_in}
 use Rattle.queue.specs.declared.entry.Entry.{Entry}
 use Rattle.queue.specs.declared.entry.InstanceKey.{InstanceKey}
 use Rattle.queue.specs.declared.entry.KeyedEntry.{KeyedEntry}
 use Rattle.queue.specs.declared.fate.Fate.{Fate}
 use Rattle.queue.specs.declared.fate.Kept.{Kept}
-use Rattle.queue.specs.declared.pool.Limits.{Limits}
 use Rattle.pacing.specs.Records.{Held, held_of, nobody, shaped, entry_at, held, waiting, Book, book_of, empty_book, next_p2_after, record_in, keyed, place_of, join_list, list_after, with_list, book_handed, book_sent, Shows, Parts, parts_of, Call, hand_in, try_send, set_rate, parts_handed, parts_after, book_after, CallShows, AllShown}
 use Rattle.pacing.specs.WriterPacer.{Queues, Pacer, with_queues, with_p0, with_p1, with_p2, waiting_in, entries_in, fits, made, keyless, numbered, enqueue_p0, enqueue_p1, enqueue_p2, inserted_into, enqueue, noted_hand_in, handed_in, hand_in_stored, front_of, popped_in, sent_from, rate_set}
 use Rattle.pacing.specs.declared.send_action.SendAction.{SendAction}
 use Rattle.pacing.specs.declared.send_action.SendAction.TheVariants.{Send, Empty, RateLimited}
-pub use Rattle.pacing.proofs.RecordsLimits.{IsLimited, limited_made, limited_made_in, Keeps, keeps, limited_handed, limited_rated, limited_sent, Goes, Stays, FairBy, fair_sent}
+pub use Rattle.pacing.proofs.RecordsLimits.{IsLimited, limited_made, Keeps, keeps, Goes, Stays, FairBy, fair_sent}
 use Rattle.pacing.proofs.RecordsLimits.{place_in, is_listed, by_key, popped-p2, next-popped_p2, limited-gone, limited_as}
 use Rattle.pacing.proofs.RecordsInSlots.{IsFit, list_of, list_same, list-popped, list-joined, list-exchanged, short-joined, length_filled, piece-filled_other}
 
@@ -517,6 +517,7 @@ module _ (m : Limits) (i : ℕ) (p : Pacer) (pool : List ℕ) (b : Book) (ok : M
 
 -- ---- every list of calls
 
+-- Stays: `all_shown` stands on it.
 call_matches :
     (m : Limits) (i : ℕ) (s : Parts) (b : Book) → Matches m i s b → (call : Call)
     → CallShows m i s b call × Matches m i (parts_after m i s call) (book_after m s b call)
@@ -526,6 +527,7 @@ call_matches m i s b ok (try_send time) = send_matches m i s.pacer s.pool b ok t
 call_matches m i s b ok (set_rate config time rate) = (tt, stays m i s.pacer (rate_set s.pacer config time rate) s.pool b refl refl ok)
 
 -- A record handed in is shown again byte for byte when it is sent, whatever is handed in and sent between.
+-- Stays: docs/GUARANTEES.md names it.
 pub all_shown : (m : Limits) (i : ℕ) (calls : List Call) (s : Parts) (b : Book) → Matches m i s b → AllShown m i s b calls
 unfolding AllShown
 all_shown m i [] s b ok = ok.lists
@@ -555,6 +557,7 @@ made-matches m i time rate pool ok wide =
     }
 
 -- The same of a pacer used alone, from its making on.
+-- Stays: docs/GUARANTEES.md names it.
 pub kept-to_the_byte :
     (N0 N1 N2 : ℕ) (m : Limits) (time rate : ℕ) (pool : List ℕ) → fits N0 N1 N2 m ≡ true → bytes_of (slots_of m) ≤ length pool
     → (calls : List Call) → AllShown m 0 (parts_of (made time m rate) pool) empty_book calls

@@ -1,5 +1,6 @@
 -- What one queue of a pacer holds, with the bytes that the pool has in its slots: a record that is stored changes one place, and no other
 -- record of any queue. Assumes nothing.
+-- Stays: what Records and RecordsLimits cite; std has no pool of slots.
 use Prim.Native.Nat.{ℕ, ◌+◌, ◌-◌, ◌*◌, ◌≤◌, ◌<◌}
 use mathlib.Core.Bool.{Bool, true, false, cond}
 use mathlib.Core.List.{List, [], ◌∷◌, ◌++◌, map}
@@ -9,7 +10,7 @@ use native.Mathlib.Omega.{arith}
 use lib.Dec.{ltb}
 use lib.ListN.{length, get_or, set, drop}
 use Rattle.std.specs.List.{All, range_with_len}
-use Rattle.std.proofs.lemmas.Bool.{cases_eq, cases_lt}
+use Rattle.std.proofs.lemmas.Bool.{cases_eq}
 use Rattle.std.proofs.lemmas.List.{length-set, length-drop, length_push, get_or_append_left, get_or_push, get_or-drop, get_or-set_same, get_or-set_other, same_lists}
 use Rattle.std.proofs.lemmas.List.FromFn.{length-map-range_with_len, get_or-map-range_with_len, map-range_with_len_more}
 use Rattle.std.proofs.lemmas.List.Elements.{All-get_or, All-drop, All-push}
@@ -17,10 +18,9 @@ use Rattle.config.specs.declared.config.Priority.{Priority}
 use Rattle.numeric.proofs.Choice.{by_test}
 use Rattle.queue.proofs.Pools.{slot_index, queue_number, slot-inside, length-stored, piece-stored, piece-stored_other, index-apart, index_same}
 use Rattle.queue.proofs.Rings.{IsSound, slot_below, slot_popped, slots_apart, sound_empty, sound_popped, limit_roomy, sound_roomy, room_in_roomy, limit_joined, sound_joined, next_slot_below, sound_exchanged}
-use Rattle.queue.specs.Pool.{piece, stored, bytes_of, limit_in, slots_of, slot_start}
+use Rattle.queue.specs.Pool.{Limits, piece, stored, bytes_of, limit_in, slots_of, slot_start}
 use Rattle.queue.specs.Waiting.{Waiting, empty, slot_of, has_room, popped, roomy, added, joined, next_slot, exchanged}
 use Rattle.queue.specs.declared.entry.KeyedEntry.{KeyedEntry}
-use Rattle.queue.specs.declared.pool.Limits.{Limits}
 use Rattle.pacing.specs.Records.{Held, held_of, join_list}
 
 -- ---- a queue of so many slots, 512 at most
@@ -107,17 +107,6 @@ module _ {A : Type 0} where
           ∙ sym (get_or-set_other (by_places g n) i k (f i) d ne ∙ get_or-map-range_with_len g 0 n k k d h (omega arith))
 
 -- ---- a record stored in a slot of a queue of pacer i
-
--- slots that differ begin at least 1,472 bytes apart
-pub starts-apart :
-    (m : Limits) (i : ℕ) (c : Priority) (s j : ℕ) (d : Priority) (t : ℕ) → slot_index m i c s ≢ slot_index m j d t
-    → (slot_start m i c s + 1472 ≤ slot_start m j d t) ⊎ (slot_start m j d t + 1472 ≤ slot_start m i c s)
-unfolding slot_start
-starts-apart m i c s j d t ne = apart (slot_index m i c s) (slot_index m j d t) ne (cases_lt (slot_index m i c s) (slot_index m j d t))
-  where
-    apart : (a b : ℕ) → a ≢ b → (a < b) ⊎ (b ≤ a) → (bytes_of a + 1472 ≤ bytes_of b) ⊎ (bytes_of b + 1472 ≤ bytes_of a)
-    apart a b ne (inl q) = inl (omega arith)
-    apart a b ne (inr q) = inr (omega arith)
 
 module _ (m : Limits) (i : ℕ) (c : Priority) (s : ℕ) (pool bytes : List ℕ) (lo : s < limit_in m c) (n : length bytes ≤ 1472)
     (wide : bytes_of (i * slots_of m + slots_of m) ≤ length pool) where

@@ -1,5 +1,6 @@
 -- What calls do to a pacer's queues: the limits stay, a record that is kept has a slot of its queue, and a send attempt takes the first of one
 -- class or nothing. Assumes nothing.
+-- Stays: what Records and guarantees/proofs (HandIns, Sound, Starts) cite; these are a pacer's own steps.
 use Prim.Native.Nat.{ℕ, ◌≤◌, ◌<◌}
 use mathlib.Core.Bool.{Bool, true, false, cond, ◌&&◌, true≢false, false≢true}
 use mathlib.Core.Path.{◌≡◌, refl, sym, subst}
@@ -7,7 +8,7 @@ use native.Mathlib.Omega.{arith}
 use lib.Dec.{eqb, ltb, leb}
 use lib.ListN.{length}
 use Rattle.std.specs.List.{position_or_len}
-use Rattle.std.specs.Prelude.{Option, Some, None}
+use Rattle.std.specs.Prelude.{Option}
 use Rattle.std.proofs.lemmas.Bool.{and_parts, leb-true, ltb-true, lt-ltb, eqb-false}
 use Rattle.std.proofs.lemmas.Iterator.Adapters.{position_from-zero}
 use Rattle.config.specs.declared.config.Priority.{Priority}
@@ -16,15 +17,13 @@ use Rattle.numeric.proofs.Choice.{by_test}
 use Rattle.queue.specs.Coalescing.{Coalescing, inserted, inserted_at, replaced_at, joined_tail, popped_front}
 use Rattle.queue.specs.Entries.{entry_of, has_key}
 use Rattle.queue.specs.Fates.{is_full}
-use Rattle.queue.specs.Pool.{limit_in}
+use Rattle.queue.specs.Pool.{Limits, limit_in}
 use Rattle.queue.specs.Waiting.{limit_fits, has_room, popped}
 use Rattle.queue.specs.declared.entry.InstanceKey.{InstanceKey}
 use Rattle.queue.specs.declared.fate.Kept.{Kept}
-use Rattle.queue.specs.declared.pool.Limits.{Limits}
 use Rattle.pacing.specs.TokenBucket.{tried, told}
-use Rattle.pacing.specs.WriterPacer.{Queues, Pacer, with_queues, with_tokens, waiting_in, slot_in, fits, made, made_in, numbered, enqueue_p0, enqueue_p1, enqueue_p2, inserted_into, enqueue, noted_hand_in, handed_in, front_of, popped_in, gone, attempt_p0, paid, waited, limited, attempt, noted_send, sent_from, rate_set}
+use Rattle.pacing.specs.WriterPacer.{Queues, Pacer, with_queues, with_tokens, waiting_in, slot_in, fits, made, numbered, enqueue_p0, enqueue_p1, enqueue_p2, inserted_into, enqueue, noted_hand_in, handed_in, front_of, popped_in, gone, attempt_p0, paid, waited, limited, attempt, noted_send, sent_from}
 use Rattle.pacing.specs.declared.token_bucket.TokenBucket.{TokenBucket}
-use Rattle.pacing.specs.declared.writer_pacer.PacerConfig.{PacerConfig}
 use Rattle.pacing.specs.declared.send_action.SendAction.{SendAction}
 use Rattle.pacing.specs.declared.send_action.SendAction.TheVariants.{Send, Empty, RateLimited}
 use Rattle.pacing.proofs.RecordsInSlots.{IsFit, fit_empty, fit_popped, fit_joined, fit_exchanged, slot_in_limit, next_slot_in_limit}
@@ -50,13 +49,6 @@ limited_made N0 N1 N2 m time rate e =
     let b = fit_fits N1 m.p1 two.1 in
     let c = fit_fits N2 m.p2 all.1 in
     record { p0 = fit_empty m.p0 a.0 a.1; p1 = fit_empty m.p1 b.0 b.1; p2 = fit_empty m.p2 c.0 c.1 }
-
-pub limited_made_in : (N0 N1 N2 : ℕ) (m : Limits) (time rate : ℕ) (p : Pacer) → made_in N0 N1 N2 time m rate ≡ Some p → IsLimited m p
-limited_made_in N0 N1 N2 m time rate p = go (fits N0 N1 N2 m) refl
-  where
-    go : (t : Bool) → fits N0 N1 N2 m ≡ t → cond t (Some (made time m rate)) None ≡ Some p → IsLimited m p
-    go true e q = subst (IsLimited m) (cc) (limited_made N0 N1 N2 m time rate e)
-    go false e q = absurd (cc)
 
 -- ---- a new key, or one that waits
 
@@ -111,13 +103,6 @@ module _ (m : Limits) (p : Pacer) (ok : IsLimited m p) where
         slot_in = λ f. next_slot_in_limit m.p2 p.queues.p2.waiting ok.p2;
       })
 
-  pub limited_handed : (c : Priority) (key : InstanceKey) (n : ℕ) → IsLimited m (handed_in p c key n).0
-  limited_handed c key n = (keeps c key n).limited
-
-  pub limited_rated : (config : PacerConfig) (time rate : ℕ) → IsLimited m (rate_set p config time rate)
-  unfolding rate_set
-  limited_rated config time rate = record { p0 = ok.p0; p1 = ok.p1; p2 = ok.p2 }
-
 -- ---- what a send attempt does to the queues: the first of one class goes, or nothing does
 
 pub record Goes (p q : Pacer) (c : Priority) (slot sequence n : ℕ) : Type 0 where
@@ -149,7 +134,7 @@ module _ (p : Pacer) where
   fair-waited : (b : TokenBucket) (time n : ℕ) → IsFair (waited (with_tokens p b) time n)
   unfolding waited
   fair-waited b time n =
-      by_test IsFair (ltb 0 (told b time n).wait) (λ e. record { queues_are = refl; next_is = refl })
+      by_test IsFair (ltb 0 (told b time n).1) (λ e. record { queues_are = refl; next_is = refl })
       (λ e. record { queues_are = refl; next_is = refl })
 
   fair-limited : (b : TokenBucket) (time : ℕ) → IsFair (limited (with_tokens p b) time)
@@ -159,13 +144,13 @@ module _ (p : Pacer) where
       (λ e.
       by_test IsFair (ltb 0 (waiting_in p.queues P2)) (λ f. fair-waited b time _) (λ f. record { queues_are = refl; next_is = refl }))
 
-  paid-some : (b : TokenBucket) (c : Priority) (time : ℕ) → (paid b p.queues c time).taken ≡ true → 0 < waiting_in p.queues c
+  paid-some : (b : TokenBucket) (c : Priority) (time : ℕ) → (paid b p.queues c time).1 ≡ true → 0 < waiting_in p.queues c
   unfolding paid
   paid-some b c time e = go (eqb (waiting_in p.queues c) 0) refl e
     where
       go :
           (t : Bool) → eqb (waiting_in p.queues c) 0 ≡ t
-          → (cond t (record { bucket = b; taken = false }) (tried b time (front_of p.queues c).length)).taken ≡ true
+          → (cond t (b, false) (tried b time (front_of p.queues c).length)).1 ≡ true
           → 0 < waiting_in p.queues c
       go true q e = absurd (false≢true e)
       go false q e = let h = eqb-false (waiting_in p.queues c) 0 q in omega arith
@@ -173,17 +158,17 @@ module _ (p : Pacer) where
   fair-p0 : (time : ℕ) → 0 < waiting_in p.queues P0 → IsFair (attempt_p0 p time)
   unfolding attempt_p0
   fair-p0 time some =
-      by_test IsFair (tried p.tokens time (front_of p.queues P0).length).taken (λ e. fair-gone P0 _ false some) (λ e. fair-gone P0 _ true some)
+      by_test IsFair (tried p.tokens time (front_of p.queues P0).length).1 (λ e. fair-gone P0 _ false some) (λ e. fair-gone P0 _ true some)
 
   pub fair_sent : (time : ℕ) → FairBy p (sent_from p time).0 (sent_from p time).1
   unfolding sent_from attempt
   fair_sent time =
       by_test IsFair (ltb 0 (waiting_in p.queues P0)) (λ e. fair-p0 time (ltb-true 0 (waiting_in p.queues P0) e))
       (λ e.
-      by_test IsFair (paid p.tokens p.queues P1 time).taken (λ f. fair-gone P1 _ false (paid-some p.tokens P1 time f))
+      by_test IsFair (paid p.tokens p.queues P1 time).1 (λ f. fair-gone P1 _ false (paid-some p.tokens P1 time f))
       (λ f.
-      by_test IsFair (paid (paid p.tokens p.queues P1 time).bucket p.queues P2 time).taken
-      (λ g. fair-gone P2 _ false (paid-some (paid p.tokens p.queues P1 time).bucket P2 time g))
+      by_test IsFair (paid (paid p.tokens p.queues P1 time).0 p.queues P2 time).1
+      (λ g. fair-gone P2 _ false (paid-some (paid p.tokens p.queues P1 time).0 P2 time g))
       (λ g. fair-limited _ time)))
 
 -- the first of P2 leaves
@@ -215,12 +200,3 @@ limited_as m p q e ok =
       p1 = subst (λ (x : Queues). IsFit m.p1 x.p1) (sym e) ok.p1;
       p2 = subst (λ (x : Queues). IsFit m.p2 x.p2.waiting) (sym e) ok.p2;
     }
-
-limited-by : (m : Limits) (p q : Pacer) → IsLimited m p → (a : SendAction) → FairBy p q a → IsLimited m q
-limited-by m p q ok (Send c slot sequence n forced) f =
-    limited_as m (with_queues p (popped_in p.queues c)) q f.queues_are (limited-gone m p c ok f.some)
-limited-by m p q ok Empty f = limited_as m p q f.queues_are ok
-limited-by m p q ok (RateLimited wait) f = limited_as m p q f.queues_are ok
-
-pub limited_sent : (m : Limits) (p : Pacer) (time : ℕ) → IsLimited m p → IsLimited m (sent_from p time).0
-limited_sent m p time ok = limited-by m p (sent_from p time).0 ok (sent_from p time).1 (fair_sent p time)

@@ -1,4 +1,5 @@
 -- A told wait is within half a nanosecond of the exact one, its two roundings together. Assumes nothing.
+-- Stays: `wait_half`, which Credit cites and docs/GUARANTEES.md names; std does not say how far a rounded quotient goes.
 use Prim.Native.Nat.{ℕ, ◌*◌, ◌^◌, ◌≤◌, ◌<◌}
 use mathlib.Core.Bool.{false}
 use mathlib.Core.Path.{◌≡◌, sym, subst}

@@ -7,10 +7,9 @@ use Rattle.config.specs.declared.config.Priority.{Priority}
 use Rattle.config.specs.declared.config.Priority.TheVariants.{P0, P1, P2}
 use Rattle.numeric.specs.Integer.{next}
 use Rattle.queue.specs.Entries.{entry_of, no_key, no_entry, keyed_entry, no_keyed_entry, has_key}
-use Rattle.queue.specs.Pool.{piece, slot_start}
+use Rattle.queue.specs.Pool.{Limits, piece, slot_start}
 use Rattle.queue.specs.declared.entry.InstanceKey.{InstanceKey}
 use Rattle.queue.specs.declared.entry.KeyedEntry.{KeyedEntry}
-use Rattle.queue.specs.declared.pool.Limits.{Limits}
 use Rattle.pacing.specs.WriterPacer.{Queues, Pacer, waiting_in, slot_in, handed_in, hand_in_stored, sent_from, sent_bytes, rate_set}
 use Rattle.pacing.specs.declared.writer_pacer.PacerConfig.{PacerConfig}
 use Rattle.pacing.specs.declared.send_action.SendAction.{SendAction}

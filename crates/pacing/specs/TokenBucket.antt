@@ -1,11 +1,9 @@
 -- The token bucket: credit, refill, and what each step leaves. Definitions only.
-use Rattle.std.specs.Prelude.{ℕ, ◌+◌, ◌-◌, min, true, false, cond, ltb, leb, pos}
+use Rattle.std.specs.Prelude.{ℕ, ◌+◌, ◌-◌, min, Bool, true, false, cond, ltb, leb, pos}
 use Rattle.std.specs.Float.{binary64}
 use Rattle.std.specs.Float.Ieee.{of_int, to_unsigned, mul, div}
 use Rattle.numeric.specs.Duration.{seconds_of, nanos_of}
 use Rattle.pacing.specs.declared.token_bucket.TokenBucket.{TokenBucket}
-use Rattle.pacing.specs.declared.token_bucket.Told.{Told}
-use Rattle.pacing.specs.declared.token_bucket.Tried.{Tried}
 
 -- "Credit is the f64 of elapsed seconds times the rate, cut to an integer."
 unfoldable pub credit : ℕ → ℕ → ℕ
@@ -38,13 +36,11 @@ credited b time n = bucket_of (min (b.tokens + n) b.capacity) b.capacity b.rate_
 unfoldable pub refilled : TokenBucket → ℕ → TokenBucket
 refilled b time = cond (ltb 0 (earned b time)) (credited b time (earned b time)) b
 
--- n tokens are taken where they are there, and none otherwise
-abbrev pub taken_from : TokenBucket → ℕ → Tried
-taken_from b n =
-    cond (leb n b.tokens) (record { bucket = with_tokens b (b.tokens - n); taken = true })
-    (record { bucket = b; taken = false })
+-- n tokens are taken where they are there, and none otherwise; and whether they were taken
+abbrev pub taken_from : TokenBucket → ℕ → TokenBucket × Bool
+taken_from b n = cond (leb n b.tokens) (with_tokens b (b.tokens - n), true) (b, false)
 
-unfoldable pub tried : TokenBucket → ℕ → ℕ → Tried
+unfoldable pub tried : TokenBucket → ℕ → ℕ → TokenBucket × Bool
 tried b time n = taken_from (refilled b time) n
 
 -- "tokens falling to 0 if short"
@@ -59,11 +55,9 @@ rated b time rate =
 unfoldable pub resized : TokenBucket → ℕ → TokenBucket
 resized b n = bucket_of (min b.tokens n) n b.rate_bps b.last_refill
 
--- the wait for what is missing of n tokens
-abbrev pub told_by : TokenBucket → ℕ → Told
-told_by b n =
-    cond (leb n b.tokens) (record { bucket = b; wait = 0 })
-    (record { bucket = b; wait = wait_of (n - b.tokens) b.rate_bps })
+-- the bucket, and the wait for what is missing of n tokens
+abbrev pub told_by : TokenBucket → ℕ → TokenBucket × ℕ
+told_by b n = cond (leb n b.tokens) (b, 0) (b, wait_of (n - b.tokens) b.rate_bps)
 
-unfoldable pub told : TokenBucket → ℕ → ℕ → Told
+unfoldable pub told : TokenBucket → ℕ → ℕ → TokenBucket × ℕ
 told b time n = told_by (refilled b time) n

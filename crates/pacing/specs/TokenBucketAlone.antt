@@ -11,8 +11,6 @@ use Rattle.config.specs.declared.refusal.Refusal.{Refusal}
 use Rattle.config.specs.declared.refusal.Refusal.TheVariants.{RateBeyond}
 use Rattle.pacing.specs.TokenBucket.{made, refilled, tried, forced, rated, resized, told}
 use Rattle.pacing.specs.declared.token_bucket.TokenBucket.{TokenBucket}
-use Rattle.pacing.specs.declared.token_bucket.Told.{Told}
-use Rattle.pacing.specs.declared.token_bucket.Tried.{Tried}
 
 -- a rate outside 1 to 1,000,000,000
 abbrev pub rate_out : ℕ → Bool
@@ -46,12 +44,9 @@ refilled_alone a time =
     answered a (verdict_of (timed_checks a.ledger time)) (moved a.ledger time) (refilled a.inner time, tt)
 
 -- whether the tokens were taken
-abbrev pub tried_pair : Tried → TokenBucket × Bool
-tried_pair t = (t.bucket, t.taken)
-
 unfoldable pub tried_alone : Alone TokenBucket → ℕ → ℕ → Left (Alone TokenBucket) Bool
 tried_alone a time bytes =
-    answered a (verdict_of (byte_checks a.ledger time bytes)) (moved a.ledger time) (tried_pair (tried a.inner time bytes))
+    answered a (verdict_of (byte_checks a.ledger time bytes)) (moved a.ledger time) (tried a.inner time bytes)
 
 unfoldable pub forced_alone : Alone TokenBucket → ℕ → ℕ → Left (Alone TokenBucket) Unit
 forced_alone a time bytes =
@@ -66,9 +61,6 @@ resized_alone a capacity =
     answered a (verdict_of (capacity_checks a.ledger capacity)) (counted a.ledger) (resized a.inner capacity, tt)
 
 -- the nanoseconds to wait
-abbrev pub told_pair : Told → TokenBucket × ℕ
-told_pair t = (t.bucket, t.wait)
-
 unfoldable pub told_alone : Alone TokenBucket → ℕ → ℕ → Left (Alone TokenBucket) ℕ
 told_alone a time bytes =
-    answered a (verdict_of (byte_checks a.ledger time bytes)) (moved a.ledger time) (told_pair (told a.inner time bytes))
+    answered a (verdict_of (byte_checks a.ledger time bytes)) (moved a.ledger time) (told a.inner time bytes)

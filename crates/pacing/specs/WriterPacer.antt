@@ -12,7 +12,7 @@ use Rattle.numeric.specs.Integer.{next, up_to_u64}
 use Rattle.queue.specs.Coalescing.{Coalescing, new_queue, inserted, popped_front}
 use Rattle.queue.specs.Entries.{entry_of, no_entry, no_key, no_keyed_entry, keyed_entry}
 use Rattle.queue.specs.Fates.{is_full, refused}
-use Rattle.queue.specs.Pool.{limits_of, slot_start, stored, piece}
+use Rattle.queue.specs.Pool.{Limits, limits_of, slot_start, stored, piece}
 use Rattle.queue.specs.Waiting.{Waiting, empty, limit_fits, has_room, joined, kept_in, popped, slot_of}
 use Rattle.queue.specs.declared.entry.Entry.{Entry}
 use Rattle.queue.specs.declared.entry.InstanceKey.{InstanceKey}
@@ -20,7 +20,6 @@ use Rattle.queue.specs.declared.entry.KeyedEntry.{KeyedEntry}
 use Rattle.queue.specs.declared.fate.Fate.{Fate}
 use Rattle.queue.specs.declared.fate.Fate.TheVariants.{Full, Joined, PushedOut, Replaced}
 use Rattle.queue.specs.declared.fate.Kept.{Kept}
-use Rattle.queue.specs.declared.pool.Limits.{Limits}
 use Rattle.pacing.specs.TokenBucket.{tried, forced, told, rated, resized}
 use Rattle.pacing.specs.TokenBucket as bucket
 use Rattle.pacing.specs.declared.pacer_counts.PacerCounts.{PacerCounts}
@@ -28,8 +27,6 @@ use Rattle.pacing.specs.declared.pacer_counts.WriterPacerMetrics.{WriterPacerMet
 use Rattle.pacing.specs.declared.send_action.SendAction.{SendAction}
 use Rattle.pacing.specs.declared.send_action.SendAction.TheVariants.{Send, Empty, RateLimited}
 use Rattle.pacing.specs.declared.token_bucket.TokenBucket.{TokenBucket}
-use Rattle.pacing.specs.declared.token_bucket.Told.{Told}
-use Rattle.pacing.specs.declared.token_bucket.Tried.{Tried}
 use Rattle.pacing.specs.declared.writer_pacer.PacerConfig.{PacerConfig}
 
 -- ---- the parts
@@ -263,21 +260,21 @@ unfoldable pub gone : Pacer → Priority → TokenBucket → Bool → Pacer × S
 gone p c b forced =
     (with_tokens (with_queues p (popped_in p.queues c)) b, send_of c (slot_in p.queues c 0) (front_of p.queues c) forced)
 
-abbrev pub by_p0 : Pacer → ℕ → ℕ → Tried → Pacer × SendAction
-by_p0 p time n x = cond x.taken (gone p P0 x.bucket false) (gone p P0 (forced x.bucket time n) true)
+abbrev pub by_p0 : Pacer → ℕ → ℕ → TokenBucket × Bool → Pacer × SendAction
+by_p0 p time n x = cond x.1 (gone p P0 x.0 false) (gone p P0 (forced x.0 time n) true)
 
 -- "P0 always goes, tokens falling to 0 if short."
 unfoldable pub attempt_p0 : Pacer → ℕ → Pacer × SendAction
 attempt_p0 p time = by_p0 p time (front_of p.queues P0).length (tried p.tokens time (front_of p.queues P0).length)
 
 -- the first of P1 or P2 is paid for in tokens; an empty queue refills nothing
-unfoldable pub paid : TokenBucket → Queues → Priority → ℕ → Tried
+unfoldable pub paid : TokenBucket → Queues → Priority → ℕ → TokenBucket × Bool
 paid b q c time =
-    cond (eqb (waiting_in q c) 0) (record { bucket = b; taken = false }) (tried b time (front_of q c).length)
+    cond (eqb (waiting_in q c) 0) (b, false) (tried b time (front_of q c).length)
 
-abbrev pub waited_by : Pacer → Told → Pacer × SendAction
+abbrev pub waited_by : Pacer → TokenBucket × ℕ → Pacer × SendAction
 waited_by p x =
-    cond (ltb 0 x.wait) (with_tokens p x.bucket, RateLimited x.wait) (with_tokens p x.bucket, Empty)
+    cond (ltb 0 x.1) (with_tokens p x.0, RateLimited x.1) (with_tokens p x.0, Empty)
 
 -- the wait for n tokens
 unfoldable pub waited : Pacer → ℕ → ℕ → Pacer × SendAction
@@ -289,11 +286,11 @@ limited p time =
     cond (ltb 0 (waiting_in p.queues P1)) (waited p time (front_of p.queues P1).length)
     (cond (ltb 0 (waiting_in p.queues P2)) (waited p time (front_of p.queues P2).length) (p, Empty))
 
-abbrev pub by_p2 : Pacer → ℕ → Tried → Pacer × SendAction
-by_p2 p time x = cond x.taken (gone p P2 x.bucket false) (limited (with_tokens p x.bucket) time)
+abbrev pub by_p2 : Pacer → ℕ → TokenBucket × Bool → Pacer × SendAction
+by_p2 p time x = cond x.1 (gone p P2 x.0 false) (limited (with_tokens p x.0) time)
 
-abbrev pub by_p1 : Pacer → ℕ → Tried → Pacer × SendAction
-by_p1 p time x = cond x.taken (gone p P1 x.bucket false) (by_p2 p time (paid x.bucket p.queues P2 time))
+abbrev pub by_p1 : Pacer → ℕ → TokenBucket × Bool → Pacer × SendAction
+by_p1 p time x = cond x.1 (gone p P1 x.0 false) (by_p2 p time (paid x.0 p.queues P2 time))
 
 -- which class is tried next: P0, then P1, then P2
 unfoldable pub attempt : Pacer → ℕ → Pacer × SendAction

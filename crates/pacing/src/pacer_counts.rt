@@ -1,6 +1,6 @@
 // What a pacer counts. Each count stops at the largest u64.
 ghost use Rattle.std.specs.Prelude.{◌≡◌};
-ghost use Rattle.pacing.specs.WriterPacer.{no_counts, counted, hand_in_noted, sent_of, send_noted};
+ghost use Rattle.pacing.specs.WriterPacer.{counted, hand_in_noted, sent_of, send_noted};
 
 use crate::send_action::SendAction;
 use config::config::Priority;
@@ -9,7 +9,7 @@ use queue::fate::Fate;
 
 // Records taken and sent by class, P1's that were pushed out, bytes sent, attempts that were told to wait, and P0's that went without tokens. P2's
 // samples that were replaced or pushed out are counted in its queue.
-#[derive(Clone, Copy, Debug, PartialEq, Eq)]
+#[derive(Clone, Copy, Debug, PartialEq, Eq, Default)]
 pub struct PacerCounts {
     pub enqueued: PerClass<u64>,
     pub sent: PerClass<u64>,
@@ -20,7 +20,7 @@ pub struct PacerCounts {
 }
 
 // The Rust's metrics.
-#[derive(Clone, Copy, Debug, PartialEq, Eq)]
+#[derive(Clone, Copy, Debug, PartialEq, Eq, Default)]
 pub struct WriterPacerMetrics {
     pub enqueued_p0: u64,
     pub enqueued_p1: u64,
@@ -44,24 +44,6 @@ fn count_one(counts: &mut PerClass<u64>, class: Priority)
 }
 
 impl PacerCounts {
-    pub fn new() -> PacerCounts
-        ensures { result ≡ no_counts }
-    {
-        let none = PerClass {
-            p0: 0,
-            p1: 0,
-            p2: 0,
-        };
-        PacerCounts {
-            enqueued: none,
-            sent: none,
-            dropped_p1: 0,
-            bytes_sent: 0,
-            rate_limited: 0,
-            force_sends_p0: 0,
-        }
-    }
-
     // What a hand-in adds; a full queue adds nothing.
     pub(crate) fn note_hand_in(&mut self, class: Priority, fate: Fate)
         ensures { self.new ≡ hand_in_noted self.old class fate }

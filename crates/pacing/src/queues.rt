@@ -3,6 +3,7 @@ ghost use Rattle.std.specs.Prelude.{◌≡◌, ◌<◌, ltb, slice_get};
 ghost use Rattle.pacing.specs.WriterPacer.{Queues, queues_made, queues_restarted, waiting_in, entries_in, slot_in, front_of, popped_in, limits_in, fits, keyless_entry};
 
 use config::config::Priority;
+use config::per_class::PerClass;
 use queue::coalescing::CoalescingQueue;
 use queue::entry::{Entry, InstanceKey, KeyedEntry};
 use queue::pool::Limits;
@@ -10,6 +11,7 @@ use queue::queue::Queue;
 use std::marker::Model;
 
 // At most N0 urgent, N1 normal and N2 background records wait.
+// Stays: [2] three types, while `PerClass` has three values of one.
 #[derive(Drop)]
 pub struct Queues<const N0: usize, const N1: usize, const N2: usize> {
     pub(crate) p0: Queue<Entry, N0>,
@@ -59,6 +61,7 @@ impl<const N0: usize, const N1: usize, const N2: usize> Queues<N0, N1, N2> {
     pub(crate) fn len(&self, class: Priority) -> u16
         ensures { result ≡ waiting_in self.now class }
     {
+        // Stays: [2] the three queues have three types; a function that picks one would hand out a `dyn`, which the merge gate refuses.
         match class {
             Priority::P0 => self.p0.len(),
             Priority::P1 => self.p1.len(),
@@ -77,7 +80,7 @@ impl<const N0: usize, const N1: usize, const N2: usize> Queues<N0, N1, N2> {
     pub(crate) fn limits(&self) -> Limits
         ensures { result ≡ limits_in self.now }
     {
-        Limits {
+        PerClass {
             p0: self.p0.limit(),
             p1: self.p1.limit(),
             p2: self.p2.limit(),
@@ -99,6 +102,7 @@ impl<const N0: usize, const N1: usize, const N2: usize> Queues<N0, N1, N2> {
     pub(crate) fn slot(&self, class: Priority, place: u16) -> u16
         ensures { result ≡ slot_in self.now class place }
     {
+        // Stays: [2] as in `len`, three types; so `entry_at`, `front` and `pop`.
         match class {
             Priority::P0 => self.p0.slot(place),
             Priority::P1 => self.p1.slot(place),

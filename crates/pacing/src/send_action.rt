@@ -7,7 +7,7 @@ use config::config::Priority;
 use config::refusal::ACCEPTED;
 use queue::fate::Kept;
 use queue::pool;
-use queue::pool::Limits;
+use queue::pool::{Limits, slot_start};
 
 // A record of a class, its slot, sequence and length, and whether it went without tokens; nothing that waits; or the nanoseconds to wait for
 // the first that does.
@@ -34,11 +34,12 @@ impl Numbered for SendAction {
 }
 
 // The bytes of a hand-in to pacer i go to its slot; those of a record that is refused go nowhere.
+// Stays: [5] pool and sample are lent for this call alone; a struct of the two and the class would be made at each call to be taken apart again.
 pub fn store(pool: &mut [u8], limits: Limits, i: u8, class: Priority, kept: Kept, sample: &[u8])
     ensures { pool.new ≡ hand_in_stored pool.old limits i class kept sample.now }
 {
     if !kept.fate.is_full() {
-        pool::store(pool, limits.slot_start(i, class, kept.slot), sample);
+        pool::store(pool, slot_start(limits, i, class, kept.slot), sample);
     }
 }
 
@@ -52,7 +53,7 @@ pub fn sent_bytes(limits: Limits, i: u8, action: SendAction, pool: &[u8]) -> &[u
             slot,
             length,
             ..
-        } => pool::shown(pool, limits.slot_start(i, class, slot), length as usize),
+        } => pool::shown(pool, slot_start(limits, i, class, slot), length as usize),
         SendAction::Empty | SendAction::RateLimited(_) => pool::shown(pool, 0, 0),
     }
 }

@@ -10,20 +10,6 @@ pub struct TokenBucket {
     pub(crate) last_refill: u64,
 }
 
-// A bucket, and whether the tokens were there and were taken.
-#[derive(Clone, Copy, Debug, PartialEq, Eq)]
-pub struct Tried {
-    pub bucket: TokenBucket,
-    pub taken: bool,
-}
-
-// A bucket, and the nanoseconds until the tokens are there.
-#[derive(Clone, Copy, Debug, PartialEq, Eq)]
-pub struct Told {
-    pub bucket: TokenBucket,
-    pub wait: u64,
-}
-
 // What `nanos` nanoseconds earn at a rate.
 fn credit_of(nanos: u64, rate_bps: u32) -> u64
     ensures { result ≡ credit nanos rate_bps }
@@ -42,9 +28,10 @@ fn wait_of(bytes: u64, rate_bps: u32) -> u64
     )
 }
 
-// The steps: total, with no numbers.
+// The steps: total, with no refusals.
 impl TokenBucket {
     // A full bucket.
+    // Stays: [5] the struct of these three is `TokenBucket`; `new` makes it once they are checked.
     pub fn new(time: u64, rate_bps: u32, capacity: u64) -> TokenBucket
         ensures { result ≡ made time rate_bps capacity }
     {
@@ -73,25 +60,16 @@ impl TokenBucket {
         }
     }
 
-    // Takes the tokens where they suffice, and none otherwise.
-    pub fn try_consume(self, time: u64, bytes: u64) -> Tried
+    // Takes the tokens where they suffice, and none otherwise; and whether they were taken.
+    pub fn try_consume(self, time: u64, bytes: u64) -> (TokenBucket, bool)
         ensures { result ≡ tried self time bytes }
     {
-        let b = self.refill(time);
-        if b.tokens >= bytes {
-            Tried {
-                bucket: TokenBucket {
-                    tokens: b.tokens - bytes,
-                    ..b
-                },
-                taken: true,
-            }
-        } else {
-            Tried {
-                bucket: b,
-                taken: false,
-            }
+        let mut b = self.refill(time);
+        let taken = b.tokens >= bytes;
+        if taken {
+            b.tokens -= bytes;
         }
+        (b, taken)
     }
 
     // Takes the tokens, down to 0 where they do not suffice: an urgent record always goes.
@@ -124,18 +102,15 @@ impl TokenBucket {
         }
     }
 
-    // How long until `bytes` tokens are there; 0 where they are.
-    pub fn time_until_available(self, time: u64, bytes: u64) -> Told
+    // The nanoseconds until `bytes` tokens are there; 0 where they are.
+    pub fn time_until_available(self, time: u64, bytes: u64) -> (TokenBucket, u64)
         ensures { result ≡ told self time bytes }
     {
         let b = self.refill(time);
         if b.tokens >= bytes {
-            Told { bucket: b, wait: 0 }
+            (b, 0)
         } else {
-            Told {
-                bucket: b,
-                wait: wait_of(bytes - b.tokens, b.rate_bps),
-            }
+            (b, wait_of(bytes - b.tokens, b.rate_bps))
         }
     }
 

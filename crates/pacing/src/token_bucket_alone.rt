@@ -74,6 +74,7 @@ pub fn refill(alone: Alone<TokenBucket>, time: u64) -> Left<Alone<TokenBucket>, 
 }
 
 // Whether the tokens were there and were taken.
+// Stays: [2, 5] the public calls on a bucket are those of the Rust, each by a time and a count of bytes; what they share is `after`, and the step is all that differs.
 pub fn try_consume(
     alone: Alone<TokenBucket>,
     time: u64,
@@ -85,10 +86,7 @@ pub fn try_consume(
     alone.after(
         check_bytes(ledger, time, bytes),
         ledger.moved(time),
-        |bucket| {
-            let tried = bucket.try_consume(time, bytes);
-            (tried.bucket, tried.taken)
-        },
+        |bucket| bucket.try_consume(time, bytes),
     )
 }
 
@@ -142,9 +140,6 @@ pub fn time_until_available(
     alone.after(
         check_bytes(ledger, time, bytes),
         ledger.moved(time),
-        |bucket| {
-            let told = bucket.time_until_available(time, bytes);
-            (told.bucket, told.wait)
-        },
+        |bucket| bucket.time_until_available(time, bytes),
     )
 }

@@ -1,18 +1,21 @@
 // The writer pacer: three queues in the order of their class, and a token bucket that paces what is not urgent. Of a record it reads the length;
 // `send_action` has its bytes.
 ghost use Rattle.std.specs.Prelude.{◌≡◌, ◌<◌, length, slice_get};
-ghost use Rattle.pacing.specs.WriterPacer.{Pacer, pacer_config_of, pacer_of, burst_of, fits, made_in, restarted, numbered, enqueue_p0, enqueue_p1, enqueue_p2, enqueue, handed_in, waiting_in, entries_in, slot_in, limits_in, gone, attempt_p0, paid, waited, limited, attempt, sent_from, sent_if, rate_set, metrics_in};
+ghost use Rattle.pacing.specs.WriterPacer.{Pacer, pacer_config_of, pacer_of, burst_of, fits, made_in, restarted, numbered, enqueue, handed_in, waiting_in, entries_in, slot_in, limits_in, gone, attempt_p0, paid, waited, limited, attempt, sent_from, sent_if, rate_set, metrics_in};
 ghost use Rattle.queue.specs.Coalescing.{stats_in};
+ghost use Rattle.queue.specs.Entries.{entry_of};
+ghost use Rattle.queue.specs.Waiting.{joined, kept_in};
 
 use crate::pacer_counts::{PacerCounts, WriterPacerMetrics};
 use crate::queues::Queues;
 use crate::send_action::SendAction;
-use crate::token_bucket::{TokenBucket, Tried};
+use crate::token_bucket::TokenBucket;
 use config::config::{CongestionConfig, Priority};
 use queue::coalescing::CoalescingStats;
 use queue::entry::{Entry, InstanceKey, KeyedEntry};
 use queue::fate::{Fate, Kept};
-use queue::pool::Limits;
+use queue::pool::{Limits, limits_of};
+use queue::queue::Queue;
 use std::marker::Model;
 
 // What a pacer reads of the settings.
@@ -24,18 +27,20 @@ pub struct PacerConfig {
     pub(crate) limits: Limits,
 }
 
-impl PacerConfig {
-    pub fn of(config: CongestionConfig) -> PacerConfig
-        ensures { result ≡ pacer_config_of config }
-    {
+impl From<CongestionConfig> for PacerConfig {
+    ghost from_gives = { λ config pacer. pacer ≡ pacer_config_of config };
+
+    fn from(config: CongestionConfig) -> PacerConfig {
         PacerConfig {
             enabled: config.enabled,
             min_rate_bps: config.min_rate_bps,
             max_rate_bps: config.max_rate_bps,
-            limits: Limits::of(config),
+            limits: limits_of(config),
         }
     }
+}
 
+impl PacerConfig {
     pub fn enabled(self) -> bool
         ensures { result ≡ self.enabled }
     {
@@ -62,6 +67,20 @@ fn burst(rate_bps: u32) -> u64
     u64::from((rate_bps / 10).max(1500))
 }
 
+// A record joins the tail; a full queue lets its oldest go first.
+fn join<const N: usize>(queue: &mut Queue<Entry, N>, sequence: u64, length: u64) -> Kept
+    ensures after { queue.new ≡ joined queue.old (entry_of sequence length) }
+    ensures kept { result ≡ kept_in queue.old sequence }
+{
+    let fate = queue.joins();
+    let (slot, _) = queue.join(Entry::new(sequence, length));
+    Kept {
+        fate,
+        slot,
+        sequence,
+    }
+}
+
 // The pacer of one writer: what waits, its own next number, its tokens and its counts.
 #[derive(Drop)]
 pub struct WriterPacer<const N0: usize, const N1: usize, const N2: usize> {
@@ -86,6 +105,7 @@ impl<const N0: usize, const N1: usize, const N2: usize> WriterPacer<N0, N1, N2> 
     }
 
     // Empty queues and a full bucket, where there is room for the limits.
+    #[tactic(auto, using(crate::proofs::Making::made_over))]
     pub fn new(time: u64, limits: Limits, rate_bps: u32) -> Option<Self>
         ensures { result ≡ made_in N0 N1 N2 time limits rate_bps }
     {
@@ -93,7 +113,7 @@ impl<const N0: usize, const N1: usize, const N2: usize> WriterPacer<N0, N1, N2> 
             queues: Queues::new(limits)?,
             next_sequence: 0,
             tokens: TokenBucket::new(time, rate_bps, burst(rate_bps)),
-            counts: PacerCounts::new(),
+            counts: PacerCounts::default(),
         })
     }
 
@@ -105,7 +125,7 @@ impl<const N0: usize, const N1: usize, const N2: usize> WriterPacer<N0, N1, N2> 
             self.queues.restart(limits);
             self.next_sequence = 0;
             self.tokens = TokenBucket::new(time, rate_bps, burst(rate_bps));
-            self.counts = PacerCounts::new();
+            self.counts = PacerCounts::default();
         }
     }
 
@@ -119,7 +139,7 @@ impl<const N0: usize, const N1: usize, const N2: usize> WriterPacer<N0, N1, N2> 
         kept
     }
 
-    // Every hand-in uses up a number of the pacer's own, P2's too.
+    // Every hand-in uses up a number of the pacer's own, P2's too, which has numbers of its own. P0 never drops: where it is full the record is refused.
     fn enqueue(&mut self, class: Priority, key: InstanceKey, length: u64) -> Kept
         ensures after { self.new ≡ (enqueue self.old class key length).0 }
         ensures kept { result ≡ (enqueue self.old class key length).1 }
@@ -127,55 +147,19 @@ impl<const N0: usize, const N1: usize, const N2: usize> WriterPacer<N0, N1, N2> 
         let sequence = self.next_sequence;
         self.next_sequence = sequence.saturating_add(1);
         match class {
-            Priority::P0 => self.enqueue_p0(sequence, length),
-            Priority::P1 => self.enqueue_p1(sequence, length),
-            Priority::P2 => self.enqueue_p2(key, length),
-        }
-    }
-
-    // P0 never drops: where it is full the record is refused.
-    fn enqueue_p0(&mut self, sequence: u64, length: u64) -> Kept
-        ensures after { self.new ≡ (enqueue_p0 self.old sequence length).0 }
-        ensures kept { result ≡ (enqueue_p0 self.old sequence length).1 }
-    {
-        if self.queues.p0.has_room() {
-            let (slot, _) = self.queues.p0.join(Entry::new(sequence, length));
-            return Kept {
-                fate: Fate::Joined,
-                slot,
+            Priority::P0 if !self.queues.p0.has_room() => Kept {
+                fate: Fate::Full,
+                slot: 0,
                 sequence,
-            };
+            },
+            Priority::P0 => join(&mut self.queues.p0, sequence, length),
+            Priority::P1 => join(&mut self.queues.p1, sequence, length),
+            Priority::P2 => self.queues.p2.insert(key, length),
         }
-        Kept {
-            fate: Fate::Full,
-            slot: 0,
-            sequence,
-        }
-    }
-
-    // P1 drops its oldest where it is full.
-    fn enqueue_p1(&mut self, sequence: u64, length: u64) -> Kept
-        ensures after { self.new ≡ (enqueue_p1 self.old sequence length).0 }
-        ensures kept { result ≡ (enqueue_p1 self.old sequence length).1 }
-    {
-        let fate = self.queues.p1.joins();
-        let (slot, _) = self.queues.p1.join(Entry::new(sequence, length));
-        Kept {
-            fate,
-            slot,
-            sequence,
-        }
-    }
-
-    // P2 coalesces, under its own sequence numbers.
-    fn enqueue_p2(&mut self, key: InstanceKey, length: u64) -> Kept
-        ensures after { self.new ≡ (enqueue_p2 self.old key length).0 }
-        ensures kept { result ≡ (enqueue_p2 self.old key length).1 }
-    {
-        self.queues.p2.insert(key, length)
     }
 
     // P0 before P1 before P2. The bytes of a record sent are shown by `send_action::sent_bytes`.
+    #[tactic(auto, unfolding(crate::specs::WriterPacer::sent_from))]
     pub fn try_send(&mut self, time: u64) -> SendAction
         ensures after { self.new ≡ (sent_from self.old time).0 }
         ensures action { result ≡ (sent_from self.old time).1 }
@@ -204,15 +188,15 @@ impl<const N0: usize, const N1: usize, const N2: usize> WriterPacer<N0, N1, N2> 
         if self.queues.waits(Priority::P0) {
             return self.send_p0(time);
         }
-        let p1 = self.try_paid(self.tokens, Priority::P1, time);
-        if p1.taken {
-            return self.gone(Priority::P1, p1.bucket, false);
+        let (tokens, taken) = self.try_paid(self.tokens, Priority::P1, time);
+        if taken {
+            return self.gone(Priority::P1, tokens, false);
         }
-        let p2 = self.try_paid(p1.bucket, Priority::P2, time);
-        if p2.taken {
-            return self.gone(Priority::P2, p2.bucket, false);
+        let (tokens, taken) = self.try_paid(tokens, Priority::P2, time);
+        if taken {
+            return self.gone(Priority::P2, tokens, false);
         }
-        self.tokens = p2.bucket;
+        self.tokens = tokens;
         self.limited(time)
     }
 
@@ -223,23 +207,20 @@ impl<const N0: usize, const N1: usize, const N2: usize> WriterPacer<N0, N1, N2> 
         ensures action { result ≡ (attempt_p0 self.old time).1 }
     {
         let length = self.queues.front(Priority::P0).length;
-        let tried = self.tokens.try_consume(time, length);
-        if tried.taken {
-            return self.gone(Priority::P0, tried.bucket, false);
+        let (tokens, taken) = self.tokens.try_consume(time, length);
+        if taken {
+            return self.gone(Priority::P0, tokens, false);
         }
-        let emptied = tried.bucket.force_consume(time, length);
-        self.gone(Priority::P0, emptied, true)
+        self.gone(Priority::P0, tokens.force_consume(time, length), true)
     }
 
     // The first of P1 or P2 is tried to be paid for in tokens; an empty queue takes none.
-    fn try_paid(&self, tokens: TokenBucket, class: Priority, time: u64) -> Tried
+    #[tactic(auto, unfolding(crate::specs::WriterPacer::paid))]
+    fn try_paid(&self, tokens: TokenBucket, class: Priority, time: u64) -> (TokenBucket, bool)
         ensures { result ≡ paid tokens self.now.queues class time }
     {
         if self.queues.len(class) == 0 {
-            return Tried {
-                bucket: tokens,
-                taken: false,
-            };
+            return (tokens, false);
         }
         tokens.try_consume(time, self.queues.front(class).length)
     }
@@ -279,14 +260,15 @@ impl<const N0: usize, const N1: usize, const N2: usize> WriterPacer<N0, N1, N2> 
     }
 
     // The wait for `length` tokens.
+    #[tactic(auto, unfolding(crate::specs::WriterPacer::waited))]
     fn waited(&mut self, time: u64, length: u64) -> SendAction
         ensures after { self.new ≡ (waited self.old time length).0 }
         ensures action { result ≡ (waited self.old time length).1 }
     {
-        let told = self.tokens.time_until_available(time, length);
-        self.tokens = told.bucket;
-        if 0 < told.wait {
-            SendAction::RateLimited(told.wait)
+        let (tokens, wait) = self.tokens.time_until_available(time, length);
+        self.tokens = tokens;
+        if 0 < wait {
+            SendAction::RateLimited(wait)
         } else {
             SendAction::Empty
         }
@@ -306,6 +288,7 @@ impl<const N0: usize, const N1: usize, const N2: usize> WriterPacer<N0, N1, N2> 
         self.tokens
     }
 
+    // Stays: [2] two counters: this one every hand-in uses up, P2's (`next_sequence_p2`) its samples alone; P0 and P1 have none of their own.
     pub fn next_sequence(&self) -> u64
         ensures { result ≡ self.now.next_sequence }
     {
@@ -354,6 +337,7 @@ impl<const N0: usize, const N1: usize, const N2: usize> WriterPacer<N0, N1, N2> 
     }
 
     // The number that P2's next sample gets.
+    // Stays: [2] as `next_sequence`.
     pub fn next_sequence_p2(&self) -> u64
         ensures { result ≡ self.now.queues.p2.next_sequence }
     {

@@ -1,4 +1,5 @@
 -- What the copier leaves, said of the pool; a record stored is shown again as it was, other slots stay, and no two queues share a slot. Assumes nothing.
+-- Stays: what `store` and pacing/proofs (RecordsInSlots, Records) cite of slots and of whose they are; std has no pool of slots.
 use Prim.Native.Nat.{ℕ, suc, ◌+◌, ◌-◌, ◌*◌, ◌≤◌, ◌<◌}
 use mathlib.Core.Bool.{Bool, true, false, cond}
 use mathlib.Core.List.{List, ◌++◌, append_assoc}
@@ -14,8 +15,7 @@ use lib.Seq.{drop-drop, drop-append-le, drop_at, length-take-le, take-append_sea
 use Rattle.config.specs.Config.{class_number}
 use Rattle.config.specs.declared.config.Priority.{Priority}
 use Rattle.config.specs.declared.config.Priority.TheVariants.{P0, P1, P2}
-use Rattle.queue.specs.Pool.{piece, put, copied, stored, bytes_of, limit_in, slots_of, slots_before}
-use Rattle.queue.specs.declared.pool.Limits.{Limits}
+use Rattle.queue.specs.Pool.{Limits, piece, put, copied, stored, bytes_of, limit_in, slots_of, slots_before}
 
 -- what is left behind n bytes of a part of w
 drop_part : (n w : ℕ) (l : List ℕ) → n ≤ w → w ≤ length l → drop n (take w l) ++ drop w l ≡ drop n l
@@ -38,6 +38,13 @@ home p s ys at h e =
         (append_assoc s (drop (length s) (take 1472 (drop at p))) (drop 1472 (drop at p))
         ∙ ap (λ (l : List ℕ). s ++ l) (drop_part (length s) 1472 (drop at p) (leb-true (length s) 1472 q) long ∙ drop-drop (length s) at p))
     go long false q = simp (take-append-drop)
+
+-- the same in the words of the code, which cuts the slot out of the pool
+pub stored_home : (p s ys : List ℕ) (at : ℕ) → at ≤ length p → 1472 ≤ length p - at → ys ≡ copied (take (at + 1472 - at) (drop at p)) s →
+    take at p ++ (ys ++ drop (at + 1472 - at) (drop at p)) ≡ stored p at s
+stored_home p s ys at low room e =
+    let wide : at + 1472 - at ≡ 1472 = omega arith in
+    rw wide (home p s ys at (omega arith) (rw wide at e))
 
 -- ---- bytes written at a place, and pieces of the pool
 

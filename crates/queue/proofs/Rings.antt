@@ -1,6 +1,7 @@
 -- Queues in use: what stays within the limits, which slot is whose, and the placement rule, that the k-th record admitted takes slot k modulo the limit.
 -- Assumes nothing.
-use Rattle.std.proofs.Common.{◌≡◌, ◌≢◌, ◌⊎◌, ℕ, suc, ◌+◌, ◌-◌, ◌%◌, ◌<◌, ◌≤◌, min, max, Bool, true, false, cond, ltb, List, [], ◌∷◌, ◌++◌, length, drop, refl, sym, ap, ap₂, subst, ◌∙◌, inl, inr, arith, mod-lt, lt-ltb, le-ltb}
+-- Stays: what pacing/proofs/RecordsInSlots cites, and the theorems `placement` and `slots_apart`; std has none of rings.
+use Rattle.std.proofs.Common.{◌≡◌, ◌≢◌, ◌⊎◌, ℕ, suc, ◌+◌, ◌-◌, ◌%◌, ◌<◌, ◌≤◌, max, Bool, true, false, cond, ltb, List, [], ◌∷◌, length, refl, sym, ap, ap₂, subst, ◌∙◌, inl, inr, arith, mod-lt, lt-ltb, le-ltb}
 use native.Mathlib.Nat.{mod-add-mod, suc-mod}
 use Rattle.std.proofs.lemmas.Bool.{cases_lt}
 use Rattle.std.proofs.lemmas.List.{length-drop, length-set, length-append}
@@ -106,23 +107,8 @@ module _ {E : Type 0} where
   unfolding joined
   limit_joined q x = limit_roomy q
 
-  pub items_joined : (q : Waiting E) (x : E) → (joined q x).items ≡ cond (ltb (length q.items) q.limit) q.items (drop 1 q.items) ++ (x ∷ [])
-  unfolding joined roomy
-  items_joined q x = go (ltb (length q.items) q.limit)
-    where
-      go : (t : Bool) → (cond t q (popped q)).items ++ (x ∷ []) ≡ cond t q.items (drop 1 q.items) ++ (x ∷ [])
-      go true = refl
-      go false = refl
-
   length_added : (q : Waiting E) (x : E) → length (added q x).items ≡ length q.items + 1
   length_added q x = length-append q.items (x ∷ [])
-
-  pub length_joined : (q : Waiting E) (x : E) → IsSound q → length (joined q x).items ≡ min (length q.items + 1) q.limit
-  unfolding joined
-  length_joined q x ok =
-      length_added (roomy q) x
-      ∙ by_room (λ (r : Waiting E). length r.items + 1 ≡ min (length q.items + 1) q.limit) q (λ low. omega arith)
-      (λ high. omega (arith, length_popped q, ok.head, ok.fits))
 
   pub sound_joined : (q : Waiting E) (x : E) → IsSound q → IsSound (joined q x)
   unfolding joined
@@ -130,24 +116,10 @@ module _ {E : Type 0} where
       let r = sound_roomy q ok in
       record { head = r.head; fits = omega (arith, length_added (roomy q) x, room_in_roomy q ok, limit_roomy q) }
 
-  -- the one that joined is the last, in the slot that was next
-  pub slot_last : (q : Waiting E) (x : E) → slot_of (joined q x) (length (joined q x).items - 1) ≡ next_slot q
-  unfolding joined next_slot
-  slot_last q x =
-      let last : length (added (roomy q) x).items - 1 ≡ length (roomy q).items = omega (arith, length_added (roomy q) x) in
-      ap (λ (k : ℕ). slot_of (roomy q) k) last
-
   pub next_slot_below : (q : Waiting E) → IsSound q → next_slot q < q.limit
   unfolding next_slot
   next_slot_below q ok =
       subst (λ (l : ℕ). slot_of (roomy q) (length (roomy q).items) < l) (limit_roomy q) (slot_below (roomy q) (length (roomy q).items) (sound_roomy q ok))
-
-  -- it is the slot of none that stays
-  pub next_slot_apart : (q : Waiting E) (place : ℕ) → IsSound q → place < length (roomy q).items → slot_of (roomy q) place ≢ next_slot q
-  unfolding next_slot
-  next_slot_apart q place ok inside =
-      slots_apart (roomy q) place (length (roomy q).items) (sound_roomy q ok)
-      (omega (arith, room_in_roomy q ok, limit_roomy q)) (omega (arith, room_in_roomy q ok, limit_roomy q)) (λ (e : place ≡ length (roomy q).items). omega arith)
 
   -- ---- an exchange
 

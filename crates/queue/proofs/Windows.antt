@@ -1,4 +1,5 @@
 -- The laws of a ring's window: what a place holds, and what pops, joins and exchanges do to the list. Assumes nothing.
+-- Stays: what Queues and Rings cite; std has none of rings.
 use Rattle.std.proofs.Common.{◌≡◌, ◌≢◌, ◌⊎◌, ℕ, ◌+◌, ◌-◌, ◌/◌, ◌%◌, ◌<◌, ◌≤◌, min, List, [], ◌∷◌, ◌++◌, length, get_or, set, take, drop, sym, ap, ◌∙◌, inl, inr, arith, mod-lt, mod-eq_of_lt, div-add-mod', mul-le-mul_right}
 use native.Mathlib.Nat.{mod-add-mod, mod-eq-sub-mod}
 use Rattle.std.proofs.lemmas.Bool.{cases_eq, cases_lt}

@@ -1,5 +1,5 @@
 -- FNV-1a, 64 bits (the FNV reference by Fowler, Noll and Vo), the keys made with it, and the coalescing queue. Definitions only.
-use Rattle.std.specs.Prelude.{ℕ, ◌+◌, ◌*◌, ◌-◌, ◌^◌, ◌%◌, cond, List, [], ◌∷◌, length, ltb, get_or, Option, Some, None}
+use Rattle.std.specs.Prelude.{ℕ, ◌+◌, ◌*◌, ◌-◌, ◌^◌, ◌%◌, cond, List, fold, length, ltb, get_or, Option, Some, None}
 use Rattle.std.specs.Int.Bits.{bit_xor}
 use Rattle.std.specs.List.{position_from}
 use Rattle.numeric.specs.Integer.{next, up_to_u64}
@@ -26,8 +26,7 @@ joined_hash hash byte = bit_xor hash byte * prime % 2 ^ 64
 
 -- from a hash on, byte after byte
 unfoldable pub joined_all : ℕ → List ℕ → ℕ
-joined_all hash [] = hash
-joined_all hash (byte ∷ rest) = joined_all (joined_hash hash byte) rest
+joined_all hash bytes = fold joined_hash hash bytes
 
 abbrev pub fnv1a : List ℕ → ℕ
 fnv1a bytes = joined_all offset_basis bytes

@@ -1,8 +1,10 @@
 -- A coalescing queue used alone: the reasons that may apply to each call, and what it answers and leaves
 -- (P2 limits 1 to 128, records 0 to 1,472 bytes; "a pacer or queue alone needs its own slots"). Definitions only.
 use Rattle.std.specs.Prelude.{ℕ, ◌||◌, List, [], ◌∷◌, ltb, length, Option, Some, None, Result, Ok, Err}
-use Rattle.config.specs.Ledger.{opened, resumed, counted, counted_checks}
+use Rattle.config.specs.Alone.{answered, made_or}
+use Rattle.config.specs.Ledger.{counted, counted_checks}
 use Rattle.config.specs.Refusal.{Check, when, verdict_of}
+use Rattle.config.specs.declared.alone.Alone.{Alone}
 use Rattle.config.specs.declared.alone.Left.{Left}
 use Rattle.config.specs.declared.ledger.Ledger.{Ledger}
 use Rattle.config.specs.declared.refusal.Refusal.{Refusal}
@@ -10,7 +12,6 @@ use Rattle.config.specs.declared.refusal.Refusal.TheVariants.{SettingsBeyond, Re
 use Rattle.queue.specs.Coalescing.{Coalescing, new_queue, inserted, popped_front}
 use Rattle.queue.specs.Pool.{bytes_of, is_short, limit_of, piece, stored}
 use Rattle.queue.specs.Waiting.{slot_of}
-use Rattle.queue.specs.declared.coalescing_alone.CoalescingQueueAlone.{CoalescingQueueAlone}
 use Rattle.queue.specs.declared.coalescing_alone.Sample.{Sample}
 use Rattle.queue.specs.declared.entry.InstanceKey.{InstanceKey}
 use Rattle.queue.specs.declared.entry.KeyedEntry.{KeyedEntry}
@@ -45,34 +46,19 @@ insert_checks l limit bytes n = when RecordTooLong (ltb 1472 n) ∷ pop_checks l
 
 -- ---- the public calls
 
-abbrev pub queue_alone_of : Ledger → Coalescing → CoalescingQueueAlone
-queue_alone_of l q = record { ledger = l; queue = q }
+unfoldable pub made_alone : ℕ → Result (Alone Coalescing) Refusal
+made_alone limit = made_or (verdict_of (making_checks limit)) 0 (new_queue (limit_of limit))
 
-abbrev pub made_by : Result Unit Refusal → ℕ → Result CoalescingQueueAlone Refusal
-made_by (Err e) limit = Err e
-made_by (Ok u) limit = Ok (queue_alone_of (opened 0) (new_queue (limit_of limit)))
+abbrev pub insert_verdict : Alone Coalescing → ℕ → ℕ → Result Unit Refusal
+insert_verdict a bytes n = verdict_of (insert_checks a.ledger a.inner.waiting.limit bytes n)
 
-unfoldable pub made_alone : ℕ → Result CoalescingQueueAlone Refusal
-made_alone limit = made_by (verdict_of (making_checks limit)) limit
-
-abbrev pub resumed_alone : CoalescingQueueAlone → ℕ → CoalescingQueueAlone
-resumed_alone a calls = queue_alone_of (resumed a.ledger calls) a.queue
-
-abbrev pub insert_verdict : CoalescingQueueAlone → ℕ → ℕ → Result Unit Refusal
-insert_verdict a bytes n = verdict_of (insert_checks a.ledger a.queue.waiting.limit bytes n)
-
-abbrev pub pop_verdict : CoalescingQueueAlone → ℕ → Result Unit Refusal
-pop_verdict a bytes = verdict_of (pop_checks a.ledger a.queue.waiting.limit bytes)
-
--- turned down: the reason, and all as it was
-abbrev pub inserted_by : CoalescingQueueAlone → Result Unit Refusal → InstanceKey → ℕ → Left CoalescingQueueAlone Unit
-inserted_by a (Err e) key n = record { state = a; answer = Err e }
-inserted_by a (Ok u) key n =
-    record { state = queue_alone_of (counted a.ledger) (inserted a.queue key n).0; answer = Ok tt }
+abbrev pub pop_verdict : Alone Coalescing → ℕ → Result Unit Refusal
+pop_verdict a bytes = verdict_of (pop_checks a.ledger a.inner.waiting.limit bytes)
 
 -- an insert of n bytes, with a pool of so many bytes
-unfoldable pub inserted_alone : CoalescingQueueAlone → ℕ → InstanceKey → ℕ → Left CoalescingQueueAlone Unit
-inserted_alone a bytes key n = inserted_by a (insert_verdict a bytes n) key n
+unfoldable pub inserted_alone : Alone Coalescing → ℕ → InstanceKey → ℕ → Left (Alone Coalescing) Unit
+inserted_alone a bytes key n =
+    answered a (insert_verdict a bytes n) (counted a.ledger) ((inserted a.inner key n).0, tt)
 
 abbrev pub insert_stored : List ℕ → Kept → List ℕ → List ℕ
 insert_stored p kept bytes = stored p (bytes_of kept.slot) bytes
@@ -81,19 +67,14 @@ abbrev pub pool_inserted_by : Result Unit Refusal → Coalescing → InstanceKey
 pool_inserted_by (Err e) q key bytes p = p
 pool_inserted_by (Ok u) q key bytes p = insert_stored p (inserted q key (length bytes)).1 bytes
 
-unfoldable pub pool_inserted : CoalescingQueueAlone → List ℕ → InstanceKey → List ℕ → List ℕ
-pool_inserted a p key bytes = pool_inserted_by (insert_verdict a (length p) (length bytes)) a.queue key bytes p
+unfoldable pub pool_inserted : Alone Coalescing → List ℕ → InstanceKey → List ℕ → List ℕ
+pool_inserted a p key bytes = pool_inserted_by (insert_verdict a (length p) (length bytes)) a.inner key bytes p
 
-abbrev pub popped_by : CoalescingQueueAlone → Result Unit Refusal → Left CoalescingQueueAlone (Option Sample)
-popped_by a (Err e) = record { state = a; answer = Err e }
-popped_by a (Ok u) =
-    record { state = queue_alone_of (counted a.ledger) (popped_front a.queue); answer = Ok (front_in a.queue) }
+unfoldable pub popped_alone : Alone Coalescing → ℕ → Left (Alone Coalescing) (Option Sample)
+popped_alone a bytes = answered a (pop_verdict a bytes) (counted a.ledger) (popped_front a.inner, front_in a.inner)
 
-unfoldable pub popped_alone : CoalescingQueueAlone → ℕ → Left CoalescingQueueAlone (Option Sample)
-popped_alone a bytes = popped_by a (pop_verdict a bytes)
-
-abbrev pub peeked_alone : CoalescingQueueAlone → Option Sample
-peeked_alone a = front_in a.queue
+abbrev pub peeked_alone : Alone Coalescing → Option Sample
+peeked_alone a = front_in a.inner
 
 -- "A sent record is shown as the middle part of the pool where it was kept."
 abbrev pub shown_bytes : Option Sample → List ℕ → List ℕ

@@ -3,7 +3,11 @@ use Rattle.std.specs.Prelude.{ℕ, ◌+◌, ◌*◌, min, Bool, cond, List, ◌+
 use Rattle.config.specs.declared.config.CongestionConfig.{CongestionConfig}
 use Rattle.config.specs.declared.config.Priority.{Priority}
 use Rattle.config.specs.declared.config.Priority.TheVariants.{P0, P1, P2}
-use Rattle.queue.specs.declared.pool.Limits.{Limits}
+use Rattle.config.specs.declared.per_class.PerClass.{PerClass}
+
+-- how many slots each queue of a pacer has
+abbrev pub Limits : Type 0
+Limits = PerClass ℕ
 
 -- a limit of the settings in 16 bits; within the domain it is at most 512
 abbrev pub limit_of : ℕ → ℕ

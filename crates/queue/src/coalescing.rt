@@ -1,5 +1,5 @@
 // The coalescing queue for background records: under one key only the latest is kept. And the hash that keys are made with.
-ghost use Rattle.std.specs.Prelude.{◌≡◌, length, slice_get};
+ghost use Rattle.std.specs.Prelude.{◌≡◌, fold, length, slice_get};
 ghost use Rattle.queue.specs.Coalescing.{Coalescing, fnv1a, joined_hash, joined_all, new_queue, made, restarted, found, inserted, popped_front, replaced_at, joined_tail, length_of, bytes_then, stats_in};
 ghost use Rattle.queue.specs.Waiting.{first, slot_of};
 
@@ -14,38 +14,41 @@ const FNV1A_OFFSET_BASIS: u64 = 0xcbf2_9ce4_8422_2325;
 
 const FNV1A_PRIME: u64 = 0x0100_0000_01b3;
 
-// FNV-1a: each byte is joined by xor, then the product with the prime is taken modulo 2^64. Eight bytes go in a turn, then the rest; of every
-// second product the factors are swapped.
-// Stays: a loop that takes a byte a turn takes 1.6 times the time of the Rust's; this one takes as long as the Rust's.
+// FNV-1a: each byte is joined by xor, then the product with the prime is taken modulo 2^64. Eight bytes go in a turn, then the rest: a byte a turn
+// takes 1.6 times as long.
+#[tactic(auto, using(crate::proofs::Keys::joined_chunks))]
 pub fn hash_bytes(bytes: &[u8]) -> u64
     ensures { result ≡ fnv1a bytes.now }
 {
-    let eights = bytes.len() - bytes.len() % 8;
-    let mut hash = FNV1A_OFFSET_BASIS;
-    let mut i = 0;
-    while i < eights {
-        hash = join(hash, bytes[i]);
-        hash = join_swapped(hash, bytes[i + 1]);
-        hash = join(hash, bytes[i + 2]);
-        hash = join_swapped(hash, bytes[i + 3]);
-        hash = join(hash, bytes[i + 4]);
-        hash = join_swapped(hash, bytes[i + 5]);
-        hash = join(hash, bytes[i + 6]);
-        hash = join_swapped(hash, bytes[i + 7]);
-        i += 8;
-    }
-    join_rest(hash, &bytes[eights..])
+    let (eights, rest) = bytes.as_chunks::<8>();
+    join_rest(join_eights(FNV1A_OFFSET_BASIS, eights), rest)
+}
+
+// A hash with every eight bytes more.
+fn join_eights(before: u64, eights: &[[u8; 8]]) -> u64
+    ensures { result ≡ fold joined_all before eights.now }
+{
+    eights
+        .iter()
+        .fold(before, |hash, eight| join_eight(hash, eight))
 }
 
 // A hash with every byte more.
 fn join_rest(before: u64, bytes: &[u8]) -> u64
     ensures { result ≡ joined_all before bytes.now }
 {
-    let mut hash = before;
-    for byte in bytes {
-        hash = join(hash, *byte);
-    }
-    hash
+    bytes.iter().fold(before, |hash, byte| join(hash, *byte))
+}
+
+// A hash with eight bytes more; of every second product the factors are swapped.
+#[tactic(auto, using(crate::proofs::Keys::eight_joined))]
+fn join_eight(hash: u64, eight: &[u8; 8]) -> u64
+    ensures { result ≡ joined_all hash eight.now }
+{
+    let hash = join_swapped(join(hash, eight[0]), eight[1]);
+    let hash = join_swapped(join(hash, eight[2]), eight[3]);
+    let hash = join_swapped(join(hash, eight[4]), eight[5]);
+    join_swapped(join(hash, eight[6]), eight[7])
 }
 
 // A hash with one byte more.
@@ -116,7 +119,6 @@ impl<const N: usize> CoalescingQueue<N> {
     }
 
     // How many places behind the oldest the first sample under a key waits.
-    // Stays: a search from the ring's head that stops at the first equal key, by a loop that yields the place by `break`.
     pub fn find(&self, key: InstanceKey) -> Option<u16>
         ensures { result ≡ found self.now key }
     {
@@ -135,6 +137,7 @@ impl<const N: usize> CoalescingQueue<N> {
     }
 
     // A sample takes the place, and the slot, of the one that waits there.
+    #[tactic(auto, using(crate::proofs::Samples::length_got))]
     fn replace(&mut self, place: u16, key: InstanceKey, length: u64) -> Kept
         ensures after { self.new ≡ (replaced_at self.old place key length).0 }
         ensures kept { result ≡ (replaced_at self.old place key length).1 }
@@ -155,6 +158,7 @@ impl<const N: usize> CoalescingQueue<N> {
     }
 
     // A sample joins the tail.
+    #[tactic(auto, using(crate::proofs::Samples::length_left), unfolding(crate::specs::Waiting::joins))]
     fn join(&mut self, key: InstanceKey, length: u64) -> Kept
         ensures after { self.new ≡ (joined_tail self.old key length).0 }
         ensures kept { result ≡ (joined_tail self.old key length).1 }

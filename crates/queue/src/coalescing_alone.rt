@@ -1,23 +1,17 @@
 // A coalescing queue used alone, with its own call count: the public calls. The Rust's queue is steered by no time, so none is taken.
 ghost use Rattle.std.specs.Prelude.{◌≡◌, length};
 ghost use Rattle.config.specs.Refusal.{verdict_of};
-ghost use Rattle.queue.specs.CoalescingAlone.{front_in, making_checks, insert_checks, pop_checks, made_alone, resumed_alone, inserted_alone, pool_inserted, popped_alone, peeked_alone, shown_bytes};
+ghost use Rattle.queue.specs.CoalescingAlone.{front_in, making_checks, insert_checks, pop_checks, made_alone, inserted_alone, pool_inserted, popped_alone, peeked_alone, shown_bytes};
 
 use crate::coalescing::CoalescingQueue;
 use crate::entry::InstanceKey;
 use crate::pool;
-use config::alone::Left;
+use config::alone::{Alone, Left};
 use config::ledger::Ledger;
 use config::refusal::Refusal;
 
 // At most 128 samples wait.
 const MOST_SAMPLES: usize = 128;
-
-#[derive(Drop)]
-pub struct CoalescingQueueAlone {
-    pub ledger: Ledger,
-    pub queue: CoalescingQueue<MOST_SAMPLES>,
-}
 
 // A sample that waits: its slot and its entry.
 #[derive(Clone, Copy, Debug, PartialEq, Eq)]
@@ -69,87 +63,61 @@ fn front(queue: &CoalescingQueue<MOST_SAMPLES>) -> Option<Sample>
     })
 }
 
-impl CoalescingQueueAlone {
-    // An empty queue of 1 to 128 samples; any other limit is refused with 2.
-    pub fn new(max_instances: usize) -> Result<CoalescingQueueAlone, Refusal>
-        ensures { result ≡ made_alone max_instances }
-    {
-        check_making(max_instances)?;
-        match CoalescingQueue::new(pool::limit_of(max_instances)) {
-            Some(queue) => Ok(CoalescingQueueAlone {
-                ledger: Ledger::new(0),
-                queue,
-            }),
-            None => Err(Refusal::SettingsBeyond),
-        }
-    }
+// An empty queue of 1 to 128 samples; any other limit is refused with 2.
+pub fn new(max_instances: usize) -> Result<Alone<CoalescingQueue<MOST_SAMPLES>>, Refusal>
+    ensures { result ≡ made_alone max_instances }
+{
+    check_making(max_instances)?;
+    let limit = pool::limit_of(max_instances);
+    let queue = CoalescingQueue::new(limit).ok_or(Refusal::SettingsBeyond)?;
+    Ok(Alone::new(0, queue))
+}
 
-    // The same queue with a call count that was kept elsewhere, as over a restart.
-    pub fn resumed(self, calls: u64) -> CoalescingQueueAlone
-        ensures { result ≡ resumed_alone self calls }
-    {
-        CoalescingQueueAlone {
-            ledger: self.ledger.resumed(calls),
-            queue: self.queue,
-        }
-    }
-
-    // In place: turned down it is left as it was.
-    pub fn put(&mut self, pool: &mut [u8], key: InstanceKey, sample: &[u8]) -> Result<(), Refusal>
-        ensures value { inserted_alone self.old (length pool.old) key (length sample.now) ≡ record { state = self.new; answer = result } }
-        ensures pool_after { pool.new ≡ pool_inserted self.old pool.old key sample.now }
-    {
-        check_insert(self.ledger, self.queue.limit(), pool.len(), sample.len())?;
-        let kept = self.queue.insert(key, sample.len() as u64);
+// A sample under a key; its bytes go to its slot in the pool.
+pub fn insert(
+    alone: Alone<CoalescingQueue<MOST_SAMPLES>>,
+    pool: &mut [u8],
+    key: InstanceKey,
+    sample: &[u8],
+) -> Left<Alone<CoalescingQueue<MOST_SAMPLES>>, ()>
+    ensures value { result ≡ inserted_alone alone (length pool.old) key (length sample.now) }
+    ensures pool_after { pool.new ≡ pool_inserted alone pool.old key sample.now }
+{
+    let ledger = alone.ledger;
+    let verdict = check_insert(ledger, alone.inner.limit(), pool.len(), sample.len());
+    let left = alone.changed(verdict, ledger.counted(), |queue| {
+        queue.insert(key, sample.len() as u64)
+    });
+    if let Ok(kept) = left.answer {
         pool::store(pool, kept.slot as usize * pool::SLOT, sample);
-        self.ledger = self.ledger.counted();
-        Ok(())
     }
+    Left {
+        state: left.state,
+        answer: verdict,
+    }
+}
 
-    pub fn insert(
-        mut self,
-        pool: &mut [u8],
-        key: InstanceKey,
-        sample: &[u8],
-    ) -> Left<CoalescingQueueAlone, ()>
-        ensures value { result ≡ inserted_alone self (length pool.old) key (length sample.now) }
-        ensures pool_after { pool.new ≡ pool_inserted self pool.old key sample.now }
-    {
-        let answer = self.put(pool, key, sample);
-        Left {
-            state: self,
-            answer,
-        }
-    }
+// The oldest sample, whose bytes `sample_bytes` shows; an empty queue gives none.
+pub fn pop_front(
+    alone: Alone<CoalescingQueue<MOST_SAMPLES>>,
+    pool: &[u8],
+) -> Left<Alone<CoalescingQueue<MOST_SAMPLES>>, Option<Sample>>
+    ensures { result ≡ popped_alone alone (length pool.now) }
+{
+    let ledger = alone.ledger;
+    let verdict = check_pop(ledger, alone.inner.limit(), pool.len());
+    alone.changed(verdict, ledger.counted(), |queue| {
+        let oldest = front(queue);
+        queue.pop_front();
+        oldest
+    })
+}
 
-    // In place: turned down it is left as it was.
-    pub fn take(&mut self, pool: &[u8]) -> Result<Option<Sample>, Refusal>
-        ensures { popped_alone self.old (length pool.now) ≡ record { state = self.new; answer = result } }
-    {
-        check_pop(self.ledger, self.queue.limit(), pool.len())?;
-        let oldest = front(&self.queue);
-        self.queue.pop_front();
-        self.ledger = self.ledger.counted();
-        Ok(oldest)
-    }
-
-    // The oldest sample, whose bytes `sample_bytes` shows; an empty queue gives none.
-    pub fn pop_front(mut self, pool: &[u8]) -> Left<CoalescingQueueAlone, Option<Sample>>
-        ensures { result ≡ popped_alone self (length pool.now) }
-    {
-        let answer = self.take(pool);
-        Left {
-            state: self,
-            answer,
-        }
-    }
-
-    // The oldest sample, which stays. Reading is no call: it is not counted.
-    pub fn peek_front(&self) -> Option<Sample>
-        ensures { result ≡ peeked_alone self.now }
-    {
-        front(&self.queue)
-    }
+// The oldest sample, which stays. Reading is no call: it is not counted.
+pub fn peek_front(alone: &Alone<CoalescingQueue<MOST_SAMPLES>>) -> Option<Sample>
+    ensures { result ≡ peeked_alone alone.now }
+{
+    front(&alone.inner)
 }
 
 // The bytes of a sample: the middle part of the pool where it is kept.

@@ -15,6 +15,7 @@ pub enum Fate {
 }
 
 impl Fate {
+    // Stays: [2] the test of one variant by `matches!`, as that of another enum in signals; std derives no such test.
     pub fn is_full(self) -> bool
         ensures { result ≡ is_full self }
     {

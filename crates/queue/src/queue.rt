@@ -54,7 +54,6 @@ impl<E: Copy + Drop, const N: usize> Queue<E, N> {
     pub fn restart(&mut self, limit: u16)
         ensures { self.new ≡ restarted N limit self.old }
     {
-        let _entries = &self.entries;
         if Self::fits(limit) {
             self.head = 0;
             self.count = 0;
@@ -65,14 +64,12 @@ impl<E: Copy + Drop, const N: usize> Queue<E, N> {
     pub fn len(&self) -> u16
         ensures { result ≡ length self.now.items }
     {
-        let _entries = &self.entries;
         self.count
     }
 
     pub fn is_empty(&self) -> bool
         ensures { result ≡ eqb (length self.now.items) 0 }
     {
-        let _entries = &self.entries;
         self.count == 0
     }
 
@@ -80,7 +77,6 @@ impl<E: Copy + Drop, const N: usize> Queue<E, N> {
     pub fn limit(&self) -> u16
         ensures { result ≡ self.now.limit }
     {
-        let _entries = &self.entries;
         self.limit
     }
 
@@ -88,14 +84,12 @@ impl<E: Copy + Drop, const N: usize> Queue<E, N> {
     pub fn head(&self) -> u16
         ensures { result ≡ self.now.head }
     {
-        let _entries = &self.entries;
         self.head
     }
 
     pub fn has_room(&self) -> bool
         ensures { result ≡ has_room self.now }
     {
-        let _entries = &self.entries;
         self.count < self.limit
     }
 
@@ -114,7 +108,6 @@ impl<E: Copy + Drop, const N: usize> Queue<E, N> {
     pub fn slot(&self, place: u16) -> u16
         ensures { result ≡ slot_of self.now place }
     {
-        let _entries = &self.entries;
         let at = self.head as u32 + place as u32;
         let slots = self.limit as u32;
         if at < slots {
@@ -125,6 +118,7 @@ impl<E: Copy + Drop, const N: usize> Queue<E, N> {
     }
 
     // The oldest, which stays.
+    #[tactic(auto, using(crate::proofs::Queues::first_got))]
     pub fn first(&self) -> Option<E>
         ensures { result ≡ first self.now.items }
     {
@@ -135,6 +129,7 @@ impl<E: Copy + Drop, const N: usize> Queue<E, N> {
     }
 
     // What waits so many places behind the oldest.
+    #[tactic(auto, using(crate::proofs::Queues::entry_got))]
     pub fn entry_at(&self, place: u16) -> Option<E>
         ensures { result ≡ slice_get self.now.items place }
     {
@@ -146,6 +141,7 @@ impl<E: Copy + Drop, const N: usize> Queue<E, N> {
     }
 
     // The oldest leaves, where one waits.
+    #[tactic(auto, using(crate::proofs::Queues::pop_steps))]
     pub fn pop(&mut self) -> Option<E>
         ensures oldest { result ≡ first self.old.items }
         ensures rest { self.new ≡ popped_front self.old }
@@ -160,6 +156,7 @@ impl<E: Copy + Drop, const N: usize> Queue<E, N> {
     }
 
     // An entry joins the tail; a full queue lets its oldest go first. The slot that it takes, and what it pushed out.
+    #[tactic(auto, using(crate::proofs::Queues::join_steps), unfolding(crate::specs::Waiting::roomy, crate::specs::Waiting::joined, crate::specs::Waiting::next_slot))]
     pub fn join(&mut self, entry: E) -> (u16, Option<E>)
         ensures after { self.new ≡ joined self.old entry }
         ensures slot { result.0 ≡ next_slot self.old }
@@ -180,6 +177,7 @@ impl<E: Copy + Drop, const N: usize> Queue<E, N> {
     }
 
     // Another entry in a place; beyond the last nothing changes.
+    #[tactic(auto, using(crate::proofs::Queues::exchanged_held))]
     pub fn exchange(&mut self, place: u16, entry: E)
         ensures { self.new ≡ exchanged self.old place entry }
     {
@@ -192,6 +190,7 @@ impl<E: Copy + Drop, const N: usize> Queue<E, N> {
 
 // How far behind the oldest the first entry under a key stands: first the entries up to the ring's end, then those from its start on, so that no
 // step of the search has to look where the ring turns.
+#[tactic(auto, using(crate::proofs::Queues::find_steps))]
 pub(crate) fn find<const N: usize>(queue: &Queue<KeyedEntry, N>, key: InstanceKey) -> Option<u16>
     ensures { result ≡ position_from (has_key key) 0 queue.now.items }
 {
@@ -209,12 +208,12 @@ pub(crate) fn find<const N: usize>(queue: &Queue<KeyedEntry, N>, key: InstanceKe
 }
 
 // The place of the first entry under a key, where the first entry's place is `from`.
-// Stays: a search that stops at the first equal key, by a loop that yields the place by `break`.
 fn find_in(entries: &[KeyedEntry], from: u16, key: InstanceKey) -> Option<u16>
     requires { from + length entries.now ≤ 1024 }
     ensures { result ≡ position_from (has_key key) from entries.now }
 {
     let mut at = 0;
+    // Stays: [3] document 01 asks for it (docs/DECISIONS.md, "Expected forms by place"): a loop that yields the found position by `break`.
     loop {
         if entries.len() <= at {
             break None;

@@ -1,5 +1,5 @@
 // The key hash and instance keys, over the byte buffer; and that buffer and the pool, which the queue and the pacer share.
-use crate::desk::{BUFFER_BYTES, Desk, POOL_BYTES};
+use crate::desk::{BUFFER_BYTES, Desk};
 use crate::line::{Line, Shown};
 use crate::operation::Operation;
 use crate::words::{Record, Unknown};
@@ -7,9 +7,6 @@ use arrayvec::ArrayVec;
 use config::refusal::Refusal;
 use queue::coalescing::hash_bytes;
 use queue::entry::InstanceKey;
-
-// The most bytes that one record brings.
-const MOST_JOINED: usize = 32;
 
 #[derive(Clone, Copy)]
 pub(crate) enum CoalescingOperation {
@@ -32,11 +29,10 @@ impl TryFrom<Record> for CoalescingOperation {
 
     fn try_from(r: Record) -> Result<Self, Unknown> {
         let length = usize::from(r.a);
-        let lent = length.min(POOL_BYTES);
         Ok(match r.operation {
             112 => Self::Empty,
             113 => Self::Join {
-                length: length.min(MOST_JOINED),
+                length,
                 words: [r.b.0, r.c.0, r.d.0, r.e.0],
             },
             114 => Self::HashBytes,
@@ -45,15 +41,15 @@ impl TryFrom<Record> for CoalescingOperation {
             117 => Self::KeyNew(InstanceKey::new(r.a.0, r.b.0)),
             118 => Self::HashIs(r.a.0),
             119 => Self::Pattern {
-                length: length.min(BUFFER_BYTES),
+                length,
                 seed: r.b.0,
             },
             120 => Self::PoolFill {
-                lent,
+                lent: length,
                 byte: r.b.into(),
             },
             121 => Self::PoolShow,
-            122 => Self::PoolLend { lent },
+            122 => Self::PoolLend { lent: length },
             _ => return Err(Unknown),
         })
     }
@@ -79,14 +75,17 @@ impl Operation for CoalescingOperation {
             }
             Self::PoolFill { lent, byte } => {
                 desk.pool.fill(byte);
-                desk.lent = lent;
-                line.with(lent)
+                desk.pool.lend(lent);
+                line.with(desk.pool.lent().len())
             }
             Self::PoolLend { lent } => {
-                desk.lent = lent;
-                line.with(lent)
+                desk.pool.lend(lent);
+                line.with(desk.pool.lent().len())
             }
-            Self::PoolShow => line.with(desk.lent).with(hash_bytes(desk.lent_part())),
+            Self::PoolShow => {
+                let lent = desk.pool.lent();
+                line.with(lent.len()).with(hash_bytes(lent))
+            }
             Self::HashBytes => line.with(hash_bytes(desk.bytes.as_slice())),
             Self::FromTopicAndKey { topic } => {
                 line.with(topic_and_key(desk.bytes.as_slice(), topic))
@@ -120,13 +119,14 @@ fn join(bytes: &mut ArrayVec<u8, BUFFER_BYTES>, length: usize, words: [u64; 4]) 
 
 // So many bytes of a pattern join the buffer as far as it goes.
 fn pattern(bytes: &mut ArrayVec<u8, BUFFER_BYTES>, length: usize, seed: u64) {
-    for k in 0..length {
+    for k in 0..length.min(BUFFER_BYTES) {
         let _ = bytes.try_push(pattern_byte(seed, k));
     }
 }
 
-// A byte of a pattern, the index modulo the buffer's size.
+// A byte of a pattern, the index modulo the buffer's size: the second byte of a product.
 fn pattern_byte(seed: u64, k: usize) -> u8 {
     let at = (k % BUFFER_BYTES) as u64;
-    ((seed % 65536 + at) * 40503 / 256 % 256) as u8
+    let [_, second, ..] = ((seed % 65536 + at) * 40503).to_le_bytes();
+    second
 }

@@ -45,7 +45,7 @@ impl Operation for ConfigOperation {
                 line
             }
             Self::New { disabled: false } => {
-                desk.settings = CongestionConfig::new();
+                desk.settings = CongestionConfig::default();
                 line
             }
             Self::Set { field, value } => {
@@ -61,7 +61,9 @@ impl Operation for ConfigOperation {
     }
 }
 
+// Stays: [1] an enum of the fields would name all 25 twice, once by its number and once where it is set.
 fn set_field(settings: &mut CongestionConfig, field: u64, value: Word) {
+    // Stays: [2] a table of closures would have the same lines, since the fields are of six types.
     match field {
         0 => settings.enabled = value.into(),
         1 => settings.min_rate_bps = value.into(),

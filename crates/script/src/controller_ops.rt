@@ -63,7 +63,7 @@ impl TryFrom<Record> for ControllerOperation {
 
 // Before the first record.
 pub(crate) fn first() -> Result<Alone<ConfiguredCongestion>, Refusal> {
-    controller_alone::new(CongestionConfig::new(), 0)
+    controller_alone::new(CongestionConfig::default(), 0)
 }
 
 impl Operation for ControllerOperation {

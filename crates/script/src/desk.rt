@@ -8,39 +8,46 @@ pub(crate) const BUFFER_BYTES: usize = 4096;
 // The bytes of the pool: 768 slots of 1,472.
 pub(crate) const POOL_BYTES: usize = 1130496;
 
-// The first bytes of the pool are lent.
-#[derive(Drop)]
+// Before the first record: default settings, no byte, and nothing is lent.
+#[derive(Default, Drop)]
 pub(crate) struct Desk {
     pub(crate) settings: CongestionConfig,
     pub(crate) bytes: ArrayVec<u8, BUFFER_BYTES>,
-    pub(crate) pool: [u8; POOL_BYTES],
-    pub(crate) lent: usize,
+    pub(crate) pool: Pool,
 }
 
-impl Desk {
-    // Before the first record: default settings, no byte, and nothing is lent.
-    pub(crate) fn new() -> Desk {
-        Desk {
-            settings: CongestionConfig::new(),
-            bytes: ArrayVec::new(),
-            pool: [0; POOL_BYTES],
-            lent: 0,
-        }
+// Bytes of which the first are lent.
+// Stays: [6] a vector of the lent bytes would lose the others, and they are kept, read and lent again.
+#[derive(Default, Drop)]
+pub(crate) struct Pool {
+    bytes: [u8; POOL_BYTES],
+    lent: usize,
+}
+
+impl Pool {
+    // Lends so many of the first bytes, or all.
+    pub(crate) fn lend(&mut self, lent: usize) {
+        self.lent = lent.min(POOL_BYTES);
     }
 
-    // The part of the pool that is lent.
-    pub(crate) fn lent_part(&self) -> &[u8] {
-        lent_of(&self.pool, self.lent)
+    // Sets every byte, lent or not.
+    pub(crate) fn fill(&mut self, byte: u8) {
+        self.bytes.fill(byte);
     }
-}
 
-// The first bytes of a pool, or all.
-pub(crate) fn lent_of(pool: &[u8], lent: usize) -> &[u8] {
-    &pool[..lent.min(pool.len())]
-}
+    // All bytes.
+    pub(crate) fn all(&self) -> &[u8] {
+        &self.bytes
+    }
 
-// The same to be written.
-pub(crate) fn lent_mut(pool: &mut [u8], lent: usize) -> &mut [u8] {
-    let end = lent.min(pool.len());
-    &mut pool[..end]
+    // The lent ones.
+    pub(crate) fn lent(&self) -> &[u8] {
+        &self.bytes[..self.lent.min(POOL_BYTES)]
+    }
+
+    // The same to be written.
+    pub(crate) fn lent_mut(&mut self) -> &mut [u8] {
+        let end = self.lent.min(POOL_BYTES);
+        &mut self.bytes[..end]
+    }
 }

@@ -30,11 +30,6 @@ impl TryFrom<Record> for EcnOperation {
     }
 }
 
-// Before the first record.
-pub(crate) fn first() -> Alone<EcnProcessor> {
-    Alone::new(0, EcnProcessor::new())
-}
-
 impl Operation for EcnOperation {
     type State = Alone<EcnProcessor>;
 
@@ -45,7 +40,7 @@ impl Operation for EcnOperation {
         line: Line,
     ) -> Result<Line, Refusal> {
         let signal = match self {
-            Self::New => remade(first(), alone),
+            Self::New => remade(Alone::new(0, EcnProcessor::default()), alone),
             Self::ProcessTos(tos) => taken(ecn_alone::process_tos(*alone, tos), alone),
             Self::ProcessCe => taken(ecn_alone::process_ce(*alone), alone),
             Self::Calls(calls) => remade(alone.resumed(calls), alone),

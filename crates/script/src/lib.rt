@@ -41,9 +41,10 @@ const LINES_BYTES: usize = BATCH_RECORDS * LINE_BYTES;
 // Reads records from the input to its end, and answers each by a line on the output.
 pub fn run(input: &mut impl Read, output: &mut impl Write) -> io::Result<()> {
     let mut modules = Modules::new().or(Err(ErrorKind::InvalidData))?;
-    let mut desk = Desk::new();
+    let mut desk = Desk::default();
     let mut batch = ArrayVec::<u8, BATCH_BYTES>::new();
     let mut lines = ArrayVec::<u8, LINES_BYTES>::new();
+    // Batches to the input's end; counted, since a loop must be seen to end.
     for _ in 0..u64::MAX {
         batch.clear();
         lines.clear();

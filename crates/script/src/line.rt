@@ -1,6 +1,8 @@
 // The line that answers a record.
 use crate::digest::{DIGEST_START, joined};
+use crate::words::Record;
 use arrayvec::ArrayVec;
+use config::alone::Alone;
 use config::ledger::Ledger;
 use config::refusal::{ACCEPTED, Refusal};
 use std::fmt;
@@ -12,7 +14,7 @@ const MOST_NUMBERS: usize = 59;
 // Room for a line: 59 numbers of 20 digits, with the spaces and the line's end, have 1,239 bytes.
 pub(crate) const LINE_BYTES: usize = 1280;
 
-#[derive(Drop)]
+#[derive(Default, Drop)]
 pub(crate) struct Line {
     numbers: ArrayVec<u64, MOST_NUMBERS>,
 }
@@ -22,18 +24,14 @@ pub(crate) trait Shown {
     fn show(self, line: Line) -> Line;
 }
 
+// The line that answers a record begins with its operation's number.
+impl From<Record> for Line {
+    fn from(record: Record) -> Line {
+        Line::default().with(record.operation)
+    }
+}
+
 impl Line {
-    pub(crate) fn empty() -> Line {
-        Line {
-            numbers: ArrayVec::new(),
-        }
-    }
-
-    // With the operation's number alone.
-    pub(crate) fn of(operation: u64) -> Line {
-        Line::empty().with(operation)
-    }
-
     // One value more.
     pub(crate) fn with(self, value: impl Shown) -> Line {
         value.show(self)
@@ -72,6 +70,7 @@ impl fmt::Display for Line {
     }
 }
 
+// Stays: [2] a blanket `impl<T: Into<u64>> Shown for T` overlaps those of floats and answers, and the check refuses it.
 impl Shown for u64 {
     fn show(self, line: Line) -> Line {
         line.with_number(self)
@@ -110,6 +109,7 @@ impl Shown for bool {
 }
 
 // Its bits, one quiet pattern for every NaN.
+// Stays: [2] the two have no trait in common that gives their bits.
 impl Shown for f32 {
     fn show(self, line: Line) -> Line {
         line.with(f32_to_bits_with_nan(self))
@@ -142,6 +142,13 @@ impl<T: Shown + Default> Shown for Result<T, Refusal> {
             Ok(told) => line.with(ACCEPTED).with(told),
             Err(refusal) => line.with(u8::from(refusal)).with(T::default()),
         }
+    }
+}
+
+// The module, and its ledger.
+impl<M: Shown> Shown for Alone<M> {
+    fn show(self, line: Line) -> Line {
+        line.with(self.inner).with(self.ledger)
     }
 }
 

@@ -2,9 +2,8 @@
 use crate::desk::Desk;
 use crate::line::Line;
 use crate::words::{Record, Unknown};
-use config::alone::Left;
+use config::alone::{Alone, Left};
 use config::refusal::Refusal;
-use std::mem;
 
 // An operation of a suite, with its arguments.
 pub(crate) trait Operation: TryFrom<Record, Error = Unknown> {
@@ -27,9 +26,9 @@ pub(crate) fn played<O: Operation>(
     record: Record,
 ) -> Result<Line, Unknown> {
     let operation = O::try_from(record)?;
-    let line = match operation.play(state, desk, Line::of(record.operation)) {
+    let line = match operation.play(state, desk, record.into()) {
         Ok(line) => line,
-        Err(refusal) => O::nothing(Line::of(record.operation).with(u8::from(refusal))),
+        Err(refusal) => O::nothing(Line::from(record).with(u8::from(refusal))),
     };
     Ok(line)
 }
@@ -41,24 +40,13 @@ pub(crate) fn taken<S: Drop, T>(left: Left<S, T>, state: &mut S) -> Result<T, Re
     answer
 }
 
-// A call by value on a state that is lent: the blank stands in for it meanwhile.
-pub(crate) fn by_value<S: Drop, T, Call: FnOnce(S) -> Left<S, T>>(
-    state: &mut S,
-    blank: S,
-    call: Call,
-) -> Result<T, Refusal>
-    requires { Call.IsAlwaysCallable call }
-{
-    taken(call(mem::replace(state, blank)), state)
-}
-
-// Takes over what was made, or the zero of it where that was turned down; it gives nothing.
-pub(crate) fn made_or_zero<S: Copy, T: Default>(
-    made: Result<S, Refusal>,
-    zero: S,
-    state: &mut S,
+// Takes over what was made, or a zero at time 0 where that was turned down; it gives nothing.
+pub(crate) fn made_or_zero<M: Copy, T: Default>(
+    made: Result<Alone<M>, Refusal>,
+    zero: M,
+    state: &mut Alone<M>,
 ) -> Result<T, Refusal> {
-    *state = made.unwrap_or(zero);
+    *state = made.unwrap_or(Alone::new(0, zero));
     made.map(|_| T::default())
 }
 

@@ -3,10 +3,12 @@ use crate::line::{Line, Shown};
 use crate::operation::taken;
 use config::alone::Left;
 use config::answer::Numbered;
-use config::refusal::{ACCEPTED, Refusal};
+use config::refusal::Refusal;
 
-// The answer's number, the flag that it gives or false, and whether budgets were shared out.
-#[derive(Clone, Copy)]
+// The answer's number as a line shows it, that of a refusal or of a full queue; the flag that it gives, or false; and whether
+// budgets were shared out. By default a call was accepted and told nothing.
+// Stays: [1] the three that a line shows; a full queue's 12 is the number of an accepted call, so that a `Result` would not tell it.
+#[derive(Clone, Copy, Default)]
 pub(crate) struct Outcome {
     pub(crate) number: u8,
     pub(crate) told: bool,
@@ -14,26 +16,17 @@ pub(crate) struct Outcome {
 }
 
 impl Outcome {
-    // Nothing was turned down, and nothing was told.
-    fn accepted() -> Outcome {
-        Outcome {
-            number: ACCEPTED,
-            told: false,
-            updated: false,
-        }
-    }
-
     // What was made takes the state's place.
     pub(crate) fn remade<S: Drop>(made: S, state: &mut S) -> Outcome {
         *state = made;
-        Outcome::accepted()
+        Outcome::default()
     }
 
     // Of an answer the number alone counts.
     pub(crate) fn plain<T: Numbered + Drop>(answer: Result<T, Refusal>) -> Outcome {
         Outcome {
             number: answer.number(),
-            ..Outcome::accepted()
+            ..Outcome::default()
         }
     }
 

@@ -1,16 +1,18 @@
 // The writer pacer, over the settings, the byte buffer and the lent part of the pool.
-use crate::desk::{Desk, lent_mut};
+use crate::desk::Desk;
 use crate::digest::{DIGEST_START, joined_entry};
 use crate::line::{Line, Shown};
-use crate::operation::{Operation, by_value, remade};
+use crate::operation::{Operation, remade, taken};
 use crate::words::{Record, Unknown};
+use config::alone::Alone;
 use config::answer::Numbered;
 use config::config::{CongestionConfig, Priority};
 use config::refusal::Refusal;
 use pacing::pacer_counts::WriterPacerMetrics;
 use pacing::send_action::{SendAction, sent_bytes};
 use pacing::writer_pacer::WriterPacer;
-use pacing::writer_pacer_alone::WriterPacerAlone;
+use pacing::writer_pacer_alone;
+use pacing::writer_pacer_alone::ConfiguredPacer;
 use queue::coalescing::hash_bytes;
 use queue::entry::InstanceKey;
 use std::mem;
@@ -28,6 +30,7 @@ pub(crate) enum PacerOperation {
 impl TryFrom<Record> for PacerOperation {
     type Error = Unknown;
 
+    // Stays: [2] the numbers and arguments are this suite's own; the gate refuses impls that a macro of ours would write.
     fn try_from(r: Record) -> Result<Self, Unknown> {
         let time = r.a.into();
         let rate = r.b.into();
@@ -50,77 +53,71 @@ impl TryFrom<Record> for PacerOperation {
 }
 
 // Default settings, but for one record of each class in a queue.
+// Stays: [4] it is the default but for three fields, and the settings have one `Default`.
 pub(crate) fn narrow() -> CongestionConfig {
     CongestionConfig {
         max_queue_p0: 1,
         max_queue_p1: 1,
         max_queue_p2: 1,
-        ..CongestionConfig::new()
+        ..CongestionConfig::default()
     }
 }
 
 // Before the first record.
-pub(crate) fn first() -> Result<WriterPacerAlone, Refusal> {
-    WriterPacerAlone::with_rate(0, narrow(), 1)
+pub(crate) fn first() -> Result<Alone<ConfiguredPacer>, Refusal> {
+    writer_pacer_alone::with_rate(0, narrow(), 1)
 }
 
+// The calls take the pacer by value: while one runs, a first pacer stands in for it.
 impl Operation for PacerOperation {
-    type State = WriterPacerAlone;
+    type State = Alone<ConfiguredPacer>;
 
     fn play(
         self,
-        alone: &mut WriterPacerAlone,
+        alone: &mut Alone<ConfiguredPacer>,
         desk: &mut Desk,
         line: Line,
     ) -> Result<Line, Refusal> {
+        // Stays: [1] a full queue's 12 is the number of an accepted hand-in, which a `Result` of an action would not tell.
         let mut action = SendAction::Empty;
         let number = match self {
             Self::New { time, rate } => {
-                let made = WriterPacerAlone::with_rate(time, desk.settings, rate)?;
+                let made = writer_pacer_alone::with_rate(time, desk.settings, rate)?;
                 remade::<_, ()>(made, alone).number()
             }
             // The bytes of the buffer go into the lent part of the pool.
             Self::Enqueue { time, class } => {
-                let pool = lent_mut(&mut desk.pool, desk.lent);
-                let bytes = desk.bytes.as_slice();
-                by_value(
-                    alone,
-                    first()?,
-                    |pacer| pacer.enqueue(time, pool, class, bytes),
-                )
-                .number()
+                let moved = mem::replace(alone, first()?);
+                let (pool, bytes) = (desk.pool.lent_mut(), desk.bytes.as_slice());
+                let left = writer_pacer_alone::enqueue(moved, time, pool, class, bytes);
+                taken(left, alone).number()
             }
             Self::EnqueueP2Keyed { time, key } => {
-                let pool = lent_mut(&mut desk.pool, desk.lent);
-                let bytes = desk.bytes.as_slice();
-                by_value(
-                    alone,
-                    first()?,
-                    |pacer| pacer.enqueue_p2_keyed(time, pool, key, bytes),
-                )
-                .number()
+                let moved = mem::replace(alone, first()?);
+                let (pool, bytes) = (desk.pool.lent_mut(), desk.bytes.as_slice());
+                let left = writer_pacer_alone::enqueue_p2_keyed(moved, time, pool, key, bytes);
+                taken(left, alone).number()
             }
             Self::TrySend { time } => {
-                let tried = by_value(
-                    alone,
-                    first()?,
-                    |pacer| pacer.try_send(time, desk.lent_part()),
-                );
+                let moved = mem::replace(alone, first()?);
+                let left = writer_pacer_alone::try_send(moved, time, desk.pool.lent());
+                let tried = taken(left, alone);
                 action = tried.unwrap_or(SendAction::Empty);
                 tried.number()
             }
             Self::SetRate { time, rate } => {
-                by_value(alone, first()?, |pacer| pacer.set_rate(time, rate)).number()
+                let moved = mem::replace(alone, first()?);
+                taken(writer_pacer_alone::set_rate(moved, time, rate), alone).number()
             }
             Self::Calls(calls) => {
                 let resumed = mem::replace(alone, first()?).resumed(calls);
                 remade::<_, ()>(resumed, alone).number()
             }
         };
-        let limits = alone.config.limits();
-        let sent = sent_bytes(limits, 0, action, desk.lent_part());
+        let ConfiguredPacer { config, pacer } = &alone.inner;
+        let sent = sent_bytes(config.limits(), 0, action, desk.pool.lent());
         let acted = line.with(number).with(action).with(hash_bytes(sent));
-        Ok(acted.with(&*alone))
+        Ok(acted.with(pacer).with(alone.ledger).with(waiting(pacer)))
     }
 
     fn nothing(line: Line) -> Line {
@@ -152,13 +149,6 @@ impl Shown for SendAction {
     }
 }
 
-impl Shown for &WriterPacerAlone {
-    fn show(self, line: Line) -> Line {
-        let pacer = &self.pacer;
-        line.with(pacer).with(self.ledger).with(waiting(pacer))
-    }
-}
-
 // A pacer of the largest queues.
 pub(crate) type Pacer = WriterPacer<128, 512, 128>;
 
@@ -170,6 +160,7 @@ pub(crate) fn waiting(pacer: &Pacer) -> u64 {
 }
 
 fn joined_class(digest: u64, pacer: &Pacer, class: Priority) -> u64 {
+    // Stays: [3] a queue is a ring, which has no slice to iterate over.
     (0..pacer.len(class)).fold(digest, |d, place| {
         joined_entry(d, class, pacer.entry_at(class, place))
     })

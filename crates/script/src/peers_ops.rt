@@ -19,11 +19,12 @@ pub(crate) enum PeersOperation {
 }
 
 // Places of a tracker.
-const PLACES: u64 = 64;
+const PEER_PLACES: u64 = 64;
 
 impl TryFrom<Record> for PeersOperation {
     type Error = Unknown;
 
+    // Stays: [2] the numbers and arguments are this suite's own; the gate refuses impls that a macro of ours would write.
     fn try_from(r: Record) -> Result<Self, Unknown> {
         Ok(match r.operation {
             80 => Self::New {
@@ -36,21 +37,17 @@ impl TryFrom<Record> for PeersOperation {
             },
             82 => Self::Calls(r.a.into()),
             83 => Self::Show {
-                place: (r.a.0 % PLACES) as usize,
+                place: (r.a.0 % PEER_PLACES) as usize,
             },
             _ => return Err(Unknown),
         })
     }
 }
 
-// A new tracker, whatever its default.
-pub(crate) fn fresh(default: f32) -> Alone<PeerRttTracker> {
-    Alone::new(0, PeerRttTracker::new(default))
-}
-
 impl Operation for PeersOperation {
     type State = Alone<PeerRttTracker>;
 
+    // Stays: [2] each arm is a call of this module; what becomes of an answer is said once, by `taken` and `remade`.
     fn play(
         self,
         alone: &mut Alone<PeerRttTracker>,
@@ -59,7 +56,8 @@ impl Operation for PeersOperation {
     ) -> Result<Line, Refusal> {
         let answer = match self {
             Self::New { default } => {
-                made_or_zero(peer_rtt_tracker_alone::new(default), fresh(0.0), alone)
+                let made = peer_rtt_tracker_alone::new(default);
+                made_or_zero(made, PeerRttTracker::new(0.0), alone)
             }
             Self::Update { time, peer, sample } => taken(
                 peer_rtt_tracker_alone::update(*alone, time, peer, sample),
@@ -68,7 +66,7 @@ impl Operation for PeersOperation {
             Self::Calls(calls) => remade(alone.resumed(calls), alone),
             Self::Show { place } => return Ok(with_place(line, &alone.inner, place)),
         };
-        let line = line.with(answer).with(alone.inner).with(alone.ledger);
+        let line = line.with(answer).with(*alone);
         Ok(line.with(digest(&alone.inner)))
     }
 }

@@ -18,8 +18,7 @@ use crate::scorer_ops::ScorerOperation;
 use crate::station_ops::{FullStation, StationOperation};
 use crate::words::{RECORD_BYTES, Record, Unknown};
 use crate::{
-    allocator_ops, bucket_ops, controller_ops, ecn_ops, pacer_ops, peers_ops, queue_ops, rate_ops,
-    rtt_ops, scorer_ops, station_ops,
+    allocator_ops, controller_ops, pacer_ops, queue_ops, rate_ops, scorer_ops, station_ops,
 };
 use config::alone::Alone;
 use config::refusal::Refusal;
@@ -28,8 +27,8 @@ use control::controller_alone::ConfiguredCongestion;
 use control::rate_controller_alone::ConfiguredController;
 use control::scorer_alone::ConfiguredScorer;
 use pacing::token_bucket::TokenBucket;
-use pacing::writer_pacer_alone::WriterPacerAlone;
-use queue::coalescing_alone::CoalescingQueueAlone;
+use pacing::writer_pacer_alone::ConfiguredPacer;
+use queue::coalescing::CoalescingQueue;
 use signals::ecn::EcnProcessor;
 use signals::rtt_estimator::{PeerRttTracker, RttEstimator};
 use std::io;
@@ -85,8 +84,8 @@ pub(crate) struct Modules {
     rtt: Alone<RttEstimator>,
     peers: Alone<PeerRttTracker>,
     bucket: Alone<TokenBucket>,
-    queue: CoalescingQueueAlone,
-    pacer: WriterPacerAlone,
+    queue: Alone<CoalescingQueue<128>>,
+    pacer: Alone<ConfiguredPacer>,
     rate: Alone<ConfiguredController>,
     scorer: Alone<ConfiguredScorer>,
     allocator: Alone<ConfiguredAllocator>,
@@ -98,10 +97,10 @@ impl Modules {
     // Before the first record.
     pub(crate) fn new() -> Result<Modules, Refusal> {
         Ok(Modules {
-            ecn: ecn_ops::first(),
-            rtt: rtt_ops::fresh(100.0),
-            peers: peers_ops::fresh(100.0),
-            bucket: bucket_ops::full(0, 1, 0),
+            ecn: Alone::new(0, EcnProcessor::default()),
+            rtt: Alone::new(0, RttEstimator::new(100.0)),
+            peers: Alone::new(0, PeerRttTracker::new(100.0)),
+            bucket: Alone::new(0, TokenBucket::new(0, 1, 0)),
             queue: queue_ops::first()?,
             pacer: pacer_ops::first()?,
             rate: rate_ops::first()?,
@@ -130,11 +129,11 @@ impl Modules {
 
     // Plays a record. An unknown operation is answered by its number alone.
     fn play(&mut self, desk: &mut Desk, record: Record) -> Line {
-        self.play_known(desk, record)
-            .unwrap_or(Line::of(record.operation))
+        self.play_known(desk, record).unwrap_or(record.into())
     }
 
     fn play_known(&mut self, desk: &mut Desk, r: Record) -> Result<Line, Unknown> {
+        // Stays: [2] an arm names a suite's type and its state; a table of suites would hold a closure for each with the same words.
         match Suite::try_from(r)? {
             Suite::Numeric => played::<NumericOperation>(&mut (), desk, r),
             Suite::Config => played::<ConfigOperation>(&mut (), desk, r),

@@ -1,13 +1,15 @@
 // The coalescing queue, over the byte buffer and the lent part of the pool.
-use crate::desk::{Desk, lent_mut, lent_of};
+use crate::desk::Desk;
 use crate::digest::{DIGEST_START, joined_entry};
 use crate::line::{Line, Shown};
-use crate::operation::{Operation, by_value, remade};
+use crate::operation::{Operation, remade, taken};
 use crate::words::{Record, Unknown};
+use config::alone::Alone;
 use config::config::Priority;
 use config::refusal::Refusal;
-use queue::coalescing::hash_bytes;
-use queue::coalescing_alone::{CoalescingQueueAlone, Sample, sample_bytes};
+use queue::coalescing::{CoalescingQueue, hash_bytes};
+use queue::coalescing_alone;
+use queue::coalescing_alone::{Sample, sample_bytes};
 use queue::entry::InstanceKey;
 use std::mem;
 
@@ -36,37 +38,42 @@ impl TryFrom<Record> for QueueOperation {
 }
 
 // Before the first record.
-pub(crate) fn first() -> Result<CoalescingQueueAlone, Refusal> {
-    CoalescingQueueAlone::new(1)
+pub(crate) fn first() -> Result<Alone<CoalescingQueue<128>>, Refusal> {
+    coalescing_alone::new(1)
 }
 
+// The calls take the queue by value: while one runs, a first queue stands in for it.
 impl Operation for QueueOperation {
-    type State = CoalescingQueueAlone;
+    type State = Alone<CoalescingQueue<128>>;
 
     fn play(
         self,
-        alone: &mut CoalescingQueueAlone,
+        alone: &mut Alone<CoalescingQueue<128>>,
         desk: &mut Desk,
         line: Line,
     ) -> Result<Line, Refusal> {
-        // Bytes of the pool that a front is read off.
-        let mut readable = desk.lent;
         let front = match self {
-            Self::New { limit } => remade(CoalescingQueueAlone::new(limit)?, alone),
+            Self::New { limit } => remade(coalescing_alone::new(limit)?, alone),
             // The bytes of the buffer go into the lent part of the pool.
             Self::Insert(key) => {
-                let pool = lent_mut(&mut desk.pool, desk.lent);
-                let bytes = desk.bytes.as_slice();
-                by_value(alone, first()?, |queue| queue.insert(pool, key, bytes)).and(Ok(None))
+                let moved = mem::replace(alone, first()?);
+                let (pool, bytes) = (desk.pool.lent_mut(), desk.bytes.as_slice());
+                let left = coalescing_alone::insert(moved, pool, key, bytes);
+                taken(left, alone).and(Ok(None))
             }
-            Self::PopFront => by_value(alone, first()?, |queue| queue.pop_front(desk.lent_part())),
-            Self::PeekFront => {
-                readable = desk.pool.len();
-                Ok(alone.peek_front())
+            Self::PopFront => {
+                let moved = mem::replace(alone, first()?);
+                taken(coalescing_alone::pop_front(moved, desk.pool.lent()), alone)
             }
+            Self::PeekFront => Ok(coalescing_alone::peek_front(alone)),
             Self::Calls(calls) => remade(mem::replace(alone, first()?).resumed(calls), alone),
         };
-        let bytes = sample_bytes(front.unwrap_or(None), lent_of(&desk.pool, readable));
+        // A front that stays is read off the whole pool.
+        let readable = match self {
+            Self::PeekFront => desk.pool.all(),
+            _ => desk.pool.lent(),
+        };
+        let bytes = sample_bytes(front.unwrap_or(None), readable);
         Ok(line.with(front).with(hash_bytes(bytes)).with(&*alone))
     }
 
@@ -92,10 +99,11 @@ impl Shown for Option<Sample> {
     }
 }
 
-impl Shown for &CoalescingQueueAlone {
+impl Shown for &Alone<CoalescingQueue<128>> {
     fn show(self, line: Line) -> Line {
-        let queue = &self.queue;
+        let queue = &self.inner;
         let stats = queue.stats();
+        // Stays: [3] the queue is a ring, which has no slice to iterate over.
         let waiting = (0..queue.len()).fold(DIGEST_START, |d, place| {
             joined_entry(d, Priority::P2, queue.entry_at(place))
         });

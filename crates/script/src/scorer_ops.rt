@@ -40,7 +40,7 @@ impl TryFrom<Record> for ScorerOperation {
 
 // Before the first record.
 pub(crate) fn first() -> Result<Alone<ConfiguredScorer>, Refusal> {
-    scorer_alone::from_config(CongestionConfig::new(), 0)
+    scorer_alone::from_config(CongestionConfig::default(), 0)
 }
 
 impl Operation for ScorerOperation {

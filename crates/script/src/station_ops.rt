@@ -1,6 +1,6 @@
 // The station, over the settings, the byte buffer and the lent part of the pool.
 use crate::allocator_ops::{updates_if, writers};
-use crate::desk::{Desk, lent_mut};
+use crate::desk::Desk;
 use crate::digest::{DIGEST_START, joined};
 use crate::line::{Line, Shown};
 use crate::operation::Operation;
@@ -47,7 +47,7 @@ pub(crate) struct HandedIn {
 }
 
 // Places of a roster.
-const PLACES: u64 = 4;
+const PACER_PLACES: u64 = 4;
 
 impl TryFrom<Record> for StationOperation {
     type Error = Unknown;
@@ -70,7 +70,7 @@ impl TryFrom<Record> for StationOperation {
             233 => Self::Send { time, i },
             234 => Self::Calls(r.a.into()),
             235 => Self::Place {
-                i: (r.a.0 % PLACES) as u8,
+                i: (r.a.0 % PACER_PLACES) as u8,
             },
             236 => Self::Controller,
             _ => return Err(Unknown),
@@ -124,7 +124,7 @@ impl Operation for StationOperation {
             .with(outcome)
             .with(SendAction::Empty)
             .with(DIGEST_START);
-        Ok(with_station(quiet, station, outcome.updated, &desk.pool))
+        Ok(with_station(quiet, station, outcome.updated, desk.pool.all()))
     }
 
     fn nothing(line: Line) -> Line {
@@ -134,55 +134,53 @@ impl Operation for StationOperation {
 
 // The bytes of the buffer go into the lent part of the pool.
 fn hand_in(station: &mut FullStation, desk: &mut Desk, handed: HandedIn) -> Outcome {
-    let pool = lent_mut(&mut desk.pool, desk.lent);
-    let bytes = desk.bytes.as_slice();
+    let (pool, bytes) = (desk.pool.lent_mut(), desk.bytes.as_slice());
     Outcome::plain(station.hand_in(pool, handed.time, handed.i, handed.class, handed.key, bytes))
 }
 
 // A send attempt, and its line: the action, and the bytes of a sent record as the lent part of the pool holds them.
 fn send(station: &mut FullStation, desk: &Desk, time: u64, i: u8, line: Line) -> Line {
-    let answer = station.send(desk.lent_part(), time, i);
+    let lent = desk.pool.lent();
+    let answer = station.send(lent, time, i);
     let action = answer.unwrap_or(SendAction::Empty);
-    let bytes = sent_bytes(station.config().pacer(), i, action, desk.lent_part());
+    let bytes = sent_bytes(station.config().pacer(), i, action, lent);
     let acted = line
         .with(answer.number())
         .with(false)
         .with(action)
         .with(hash_bytes(bytes));
-    with_station(acted, station, false, &desk.pool)
+    with_station(acted, station, false, desk.pool.all())
 }
 
 // The ledger, the rate, the score, the count of writers and their budgets; the places; and the digests of the controller, of
 // the updates and of the bytes that wait.
 fn with_station(line: Line, station: &FullStation, updated: bool, pool: &[u8]) -> Line {
-    let controller = &station.controller;
+    let controller = station.controller();
     let core = controller.core();
     let headed = line
         .with(station.ledger())
         .with(core.rate())
         .with(core.scorer().score())
-        .with(station.roster.count());
+        .with(station.roster().count());
     let limits = station.config().pacer().limits();
     with_places(with_budgets(headed, controller.allocator()), station)
-        .with(with_controller(Line::empty(), station).digest())
+        .with(with_controller(Line::default(), station).digest())
         .with(updates_if(updated, controller.allocator()))
         .with(waiting_bytes(limits, station, pool))
 }
 
 // Those of the table's first four rows; a blank row has 0.
 fn with_budgets(line: Line, allocator: &BudgetAllocator) -> Line {
-    let table = allocator.table();
-    let mut line = line;
-    for place in 0..4 {
-        line = line.with(table.writer_at(place).budget_bps);
-    }
-    line
+    let rows = allocator.table().rows();
+    rows.iter()
+        .take(4)
+        .fold(line, |line, row| line.with(row.budget_bps))
 }
 
 // Of each place the bucket, P0's forced sends, and the digest of all that is shown of it.
 fn with_places(line: Line, station: &FullStation) -> Line {
     let mut line = line;
-    for i in 0..PLACES as u8 {
+    for i in 0..PACER_PLACES as u8 {
         let place = Place::at(station, i);
         line = match place.pacer {
             Some(pacer) => line
@@ -190,14 +188,14 @@ fn with_places(line: Line, station: &FullStation) -> Line {
                 .with(pacer.metrics().force_sends_p0),
             None => line.with_zeros(5),
         };
-        line = line.with(Line::empty().with(place).digest());
+        line = line.with(Line::default().with(place).digest());
     }
     line
 }
 
 // The controller and the digests of its tables.
 fn with_controller(line: Line, station: &FullStation) -> Line {
-    let controller = &station.controller;
+    let controller = station.controller();
     line.with(station.config().controller().enabled)
         .with(*controller)
         .with(writers(controller.allocator()))
@@ -214,7 +212,7 @@ struct Place<'a> {
 
 impl Place<'_> {
     fn at(station: &FullStation, i: u8) -> Place<'_> {
-        let roster = &station.roster;
+        let roster = station.roster();
         let taken = i < roster.count();
         Place {
             i,
@@ -238,7 +236,7 @@ impl Shown for Place<'_> {
 // The digest of the digests of every waiting record's bytes, as the pool holds them; a place that no writer has holds nothing.
 fn waiting_bytes(limits: Limits, station: &FullStation, pool: &[u8]) -> u64 {
     let mut digest = DIGEST_START;
-    for i in 0..PLACES as u8 {
+    for i in 0..PACER_PLACES as u8 {
         if let Some(pacer) = Place::at(station, i).pacer {
             for class in [Priority::P0, Priority::P1, Priority::P2] {
                 digest = joined_class(digest, limits, pacer, i, class, pool);
@@ -256,8 +254,9 @@ fn joined_class(
     class: Priority,
     pool: &[u8],
 ) -> u64 {
+    // Stays: [3] a queue is a ring, which has no slice to iterate over.
     (0..pacer.len(class)).fold(digest, |d, place| {
-        let start = limits.slot_start(i, class, pacer.slot(class, place));
+        let start = pool::slot_start(limits, i, class, pacer.slot(class, place));
         let length = pacer.entry_at(class, place).map_or(0, |e| e.entry.length);
         joined(d, &[hash_bytes(pool::shown(pool, start, length as usize))])
     })

@@ -9,6 +9,7 @@ pub(crate) const RECORD_BYTES: usize = 48;
 pub(crate) struct Word(pub(crate) u64);
 
 // The operation and its arguments.
+// Stays: [1] a line repeats the number, also of an operation that no suite knows; each suite makes an enum of its own of it.
 #[derive(Clone, Copy)]
 pub(crate) struct Record {
     pub(crate) operation: u64,
@@ -46,6 +47,7 @@ impl Word {
     }
 }
 
+// Stays: [2] each type takes the bits in its own way; an `impl<T> From<Word> for T` is refused, since neither `From` nor T is this crate's.
 impl From<Word> for u64 {
     fn from(word: Word) -> u64 {
         word.0
@@ -93,10 +95,6 @@ impl From<Word> for f64 {
 // The class, its digit modulo 3.
 impl From<Word> for Priority {
     fn from(word: Word) -> Priority {
-        match word.0 % 3 {
-            0 => Priority::P0,
-            1 => Priority::P1,
-            _ => Priority::P2,
-        }
+        Priority::try_from((word.0 % 3) as u8).unwrap_or(Priority::P2)
     }
 }

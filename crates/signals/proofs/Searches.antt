@@ -1,5 +1,6 @@
 -- The first place at which a test holds, as an iterator over the first n elements finds it. Assumes nothing.
-use Rattle.std.proofs.Common.{◌≡◌, ℕ, zero, suc, ◌≤◌, Bool, true, false, Some, None, List, [], ◌∷◌, ◌||◌, cond, get_or, take, length, refl, arith, nat_lt, length-take-le}
+-- Stays: what the answers of every search of a table cite, here and in `control`; std's `position` and `any` go by lists, and none of it by `first`.
+use Rattle.std.proofs.Common.{◌≡◌, ℕ, zero, suc, ◌≤◌, Bool, true, false, List, [], ◌∷◌, ◌||◌, cond, get_or, take, length, refl, arith, nat_lt, length-take-le}
 use Rattle.std.specs.List.{position, position_or_len, list_any}
 use Rattle.std.specs.Option.{unwrap_or}
 use Rattle.numeric.specs.Search.{first}
@@ -17,11 +18,7 @@ pub position-first :
     {X : Type 0} (p : X → Bool) (d : X) (xs : List X) (n : ℕ) → n ≤ length xs
     → unwrap_or (position p (take n xs)) n ≡ first (λ (k : ℕ). p (get_or xs k d)) n
 position-first p d xs n h =
-    let f : ℕ = first (λ (k : ℕ). p (get_or xs k d)) n in
-    rw (length-take-le n xs h, place-first p d xs n h) (held f n (first-most (λ (k : ℕ). p (get_or xs k d)) n))
-  where
-    held : (f n : ℕ) → f ≤ n → unwrap_or (cond (nat_lt f n) (Some f) None) n ≡ f
-    held f n h = grind arith
+    grind (arith, length-take-le n xs h, place-first p d xs n h, first-most (λ (k : ℕ). p (get_or xs k d)) n)
 
 -- whether one is among them
 pub any_first :

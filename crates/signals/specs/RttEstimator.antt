@@ -5,7 +5,6 @@ use Rattle.std.specs.Float.Ieee.{of_bits, add, sub, mul, div, lt}
 use Rattle.numeric.specs.Float.{max_of, abs_of}
 use Rattle.numeric.specs.Search.{first}
 use Rattle.signals.specs.declared.rtt_estimator.Peer.{Peer}
-use Rattle.signals.specs.declared.rtt_estimator.PeerRow.{PeerRow}
 use Rattle.signals.specs.declared.rtt_estimator.PeerRttTracker.{PeerRttTracker}
 use Rattle.signals.specs.declared.rtt_estimator.RttEstimator.{RttEstimator}
 
@@ -129,8 +128,14 @@ tracker_updated t time id x =
 unfoldable pub full_for : PeerRttTracker → ℕ → Bool
 full_for t id = cond (ltb (place_of t id) (known_of t.count)) false (leb 64 (known_of t.count))
 
--- ---- the same on one row of the table, for a loop that keeps the table and hands on a row. Nothing new: on the row at `seat_of` a sample comes to
--- `tracker_updated` and `full_for` (`row_like`, proofs/Peers.antt)
+-- ---- the same on one row of the table: a sample reads and writes the row at `seat_of`, the count and the default, and nothing else. Nothing new: it
+-- comes to `tracker_updated` and `full_for` (`row_like`, proofs/Peers.antt)
+
+-- one place of a table, its count and its default
+pub record PeerRow : Type 0 where
+  pub peer : Peer
+  pub count : ℕ
+  pub default_ms : Float
 
 abbrev pub row_of : Peer → ℕ → Float → PeerRow
 row_of p count x = record { peer = p; count = count; default_ms = x }

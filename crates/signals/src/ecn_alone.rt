@@ -1,4 +1,4 @@
-// A processor used alone: `Alone::new(0, EcnProcessor::new())` is one with no call yet. Its calls take no times.
+// A processor used alone: `Alone::new(0, EcnProcessor::default())` is one with no call yet. Its calls take no times.
 ghost use Rattle.std.specs.Prelude.{◌≡◌};
 ghost use Rattle.signals.specs.EcnAlone.{tos_alone, ce_alone};
 

@@ -7,7 +7,8 @@ use crate::rtt_estimator::{PeerRttTracker, check_sample, sample_out};
 use config::alone::{Alone, Left};
 use config::refusal::Refusal;
 
-// The default is held to the range of the samples: 4.
+// A default outside the samples' range is refused: 4.
+// Stays: [2] a check and a making, a line each; one for both modules would take the making as a closure, and each would still need its name.
 pub fn new(default_ms: f32) -> Result<Alone<PeerRttTracker>, Refusal>
     ensures { result ≡ new_tracker_alone default_ms }
 {
@@ -16,6 +17,7 @@ pub fn new(default_ms: f32) -> Result<Alone<PeerRttTracker>, Refusal>
 }
 
 // One sample more for a peer: 4, 7, 17, 11 or 14.
+// Stays: [5] the Rust's arguments of a sample and document 01's time; a struct of them would be made at each call and taken apart in it.
 pub fn update(
     alone: Alone<PeerRttTracker>,
     time: u64,
@@ -24,25 +26,24 @@ pub fn update(
 ) -> Left<Alone<PeerRttTracker>, ()>
     ensures { result ≡ tracker_updated_alone alone time peer_id rtt_ms }
 {
-    let ledger = alone.ledger;
-    alone.after(
-        check_peer(alone, time, peer_id, rtt_ms),
-        ledger.moved(time),
-        |mut tracker| {
+    let ledger = alone.ledger.moved(time);
+    alone.changed(
+        check_peer(&alone, time, peer_id, rtt_ms),
+        ledger,
+        |tracker| {
             tracker.update(time, peer_id, rtt_ms);
-            (tracker, ())
         },
     )
 }
 
 // The checks of a peer's sample: those of a sample, and 14 where the peer is new and the table full.
 fn check_peer(
-    alone: Alone<PeerRttTracker>,
+    alone: &Alone<PeerRttTracker>,
     time: u64,
     peer_id: u32,
     rtt_ms: f32,
 ) -> Result<(), Refusal>
-    ensures { result ≡ verdict_of (peer_checks alone time peer_id rtt_ms) }
+    ensures { result ≡ verdict_of (peer_checks alone.now time peer_id rtt_ms) }
 {
     check_sample(alone.ledger, time, rtt_ms)?;
     Refusal::TableFull.when(alone.inner.is_full_for(peer_id))

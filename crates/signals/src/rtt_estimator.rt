@@ -1,7 +1,7 @@
 // Round-trip times: an average, its variance and the least sample, for one peer and for up to 64.
 ghost use Rattle.std.specs.Prelude.{◌≡◌, ◌<◌, not};
 ghost use Rattle.config.specs.Refusal.{verdict_of};
-ghost use Rattle.signals.specs.RttEstimator.{lesser_of, new_estimator, updated, inflated, rto_of, place_of, known_of, peers_of, new_tracker, seat_of, row_entered, tracker_updated, full_for, any_inflated, id_at, shown_at};
+ghost use Rattle.signals.specs.RttEstimator.{lesser_of, new_estimator, updated, inflated, rto_of, place_of, known_of, peers_of, new_tracker, tracker_updated, full_for, any_inflated, id_at, shown_at};
 ghost use Rattle.signals.specs.RttEstimatorAlone.{sample_out, sample_checks};
 
 use config::ledger::Ledger;
@@ -20,14 +20,14 @@ pub struct RttEstimator {
     pub last_sample: Option<u64>,
 }
 
-// The lesser of a sample and the least so far.
+// The lesser of a sample and the least so far, which a NaN does not replace (std's `min` differs at a NaN that stands).
 fn lesser(sample_ms: f32, least: f32) -> f32
     ensures { result ≡ lesser_of sample_ms least }
 {
     if sample_ms < least { sample_ms } else { least }
 }
 
-// The steps: total, with no numbers.
+// The steps: total, with no refusals.
 impl RttEstimator {
     pub fn new(default_ms: f32) -> RttEstimator
         ensures { result ≡ new_estimator default_ms }
@@ -70,15 +70,6 @@ impl RttEstimator {
         ensures { self.new ≡ updated self.old time sample_ms }
     {
         *self = self.update(time, sample_ms);
-    }
-
-    // The same by way of the lent form: the estimator is lent for the call, and what it then is comes back. Stays: the two forms of `update`
-    // are asked for side by side.
-    pub fn update_lent(mut self, time: u64, sample_ms: f32) -> RttEstimator
-        ensures { result ≡ updated self time sample_ms }
-    {
-        self.update_in_place(time, sample_ms);
-        self
     }
 
     // Whether the average is above twice the least sample.
@@ -133,8 +124,8 @@ pub struct Peer {
     pub estimator: RttEstimator,
 }
 
-// Up to 64 peers in the order they were entered. Stays: an array and a count. A controller is taken and given back by value, and so is Copy, which
-// the library's vector of fixed room is not.
+// Up to 64 peers in the order they were entered.
+// Stays: [6] an array and a count: both are public, contracts say what all 64 places hold, free ones too, and the library's vector of fixed room is not Copy.
 #[derive(Clone, Copy, Debug, PartialEq)]
 pub struct PeerRttTracker {
     pub peers: [Peer; 64],
@@ -142,51 +133,12 @@ pub struct PeerRttTracker {
     pub default_ms: f32,
 }
 
-// One place of a tracker, its count and its default: all that a sample reads once its place is known, and more than it changes.
-#[derive(Clone, Copy, Debug, PartialEq)]
-pub struct PeerRow {
-    pub peer: Peer,
-    pub count: u16,
-    pub default_ms: f32,
-}
-
 // How many places are taken: the count, held to the table's size.
+// Stays: [2] a line over the size of its own table; the writers' is another's, and one for both would take the size along.
 fn known(count: u16) -> usize
     ensures { result ≡ known_of count }
 {
     usize::from(count).min(MOST_PEERS)
-}
-
-impl PeerRow {
-    // One sample more for a peer, in the row of the place that it goes to; None where that is another's: the table is full. A loop that keeps a
-    // tracker reads and writes the row itself: to hand the table to a function copies it.
-    pub fn enter(self, at: usize, time: u64, peer_id: u32, rtt_ms: f32) -> Option<PeerRow>
-        ensures { result ≡ row_entered self at time peer_id rtt_ms }
-    {
-        let n = known(self.count);
-        if n <= at {
-            let estimator = RttEstimator::new(self.default_ms).update(time, rtt_ms);
-            Some(PeerRow {
-                peer: Peer {
-                    id: peer_id,
-                    estimator,
-                },
-                count: n as u16 + 1,
-                ..self
-            })
-        } else if self.peer.id == peer_id {
-            let estimator = self.peer.estimator.update(time, rtt_ms);
-            Some(PeerRow {
-                peer: Peer {
-                    estimator,
-                    ..self.peer
-                },
-                ..self
-            })
-        } else {
-            None
-        }
-    }
 }
 
 impl PeerRttTracker {
@@ -213,7 +165,7 @@ impl PeerRttTracker {
         let n = known(self.count);
         let at = self.place_of(peer_id);
         if at < n {
-            self.peers[at].estimator = self.peers[at].estimator.update(time, rtt_ms);
+            self.peers[at].estimator.update_in_place(time, rtt_ms);
             return true;
         }
         if n >= MOST_PEERS {
@@ -235,6 +187,7 @@ impl PeerRttTracker {
     }
 
     // The place of a peer, or the number of places taken where it is not there.
+    // Stays: [1] its definition (`place_of`), under theorems that pages name, gives the number of places taken where the peer is not there.
     fn place_of(&self, peer_id: u32) -> usize
         ensures { result ≡ place_of self.now peer_id }
     {
@@ -242,14 +195,6 @@ impl PeerRttTracker {
             .iter()
             .position(|peer| peer.id == peer_id)
             .unwrap_or(known(self.count))
-    }
-
-    // The place that a peer's sample goes to: its own, or the next free one; in a full table that a new peer cannot enter, the last.
-    pub fn seat_of(&self, peer_id: u32) -> usize
-        ensures value { result ≡ seat_of self.now peer_id }
-        ensures upper_bound { result < 64 }
-    {
-        self.place_of(peer_id).min(MOST_PEERS - 1)
     }
 
     // Whether a peer is not there and there is no room for it.
@@ -275,7 +220,7 @@ impl PeerRttTracker {
         self.count
     }
 
-    // The id of the peer at a place, 0 where none stands. Stays: no Option, so that a place beyond the peers shows zero, as it did.
+    // The id of the peer at a place, 0 where none stands.
     pub fn id_at(&self, place: usize) -> u32
         ensures { result ≡ id_at self.now place }
     {

@@ -6,7 +6,8 @@ use crate::rtt_estimator::{RttEstimator, check_sample, sample_out};
 use config::alone::{Alone, Left};
 use config::refusal::Refusal;
 
-// The default is held to the range of the samples: 4.
+// A default outside the samples' range is refused: 4.
+// Stays: [2] a check and a making, a line each; one for both modules would take the making as a closure, and each would still need its name.
 pub fn new(default_ms: f32) -> Result<Alone<RttEstimator>, Refusal>
     ensures { result ≡ new_alone default_ms }
 {
@@ -30,7 +31,8 @@ pub fn update(
     )
 }
 
-// The same call by way of an estimator that is lent.
+// The same call on an estimator that is lent and changed in place.
+// Stays: [2] document 01 asks for `update` in both forms, by value and lent.
 pub fn update_lent(
     alone: Alone<RttEstimator>,
     time: u64,
@@ -39,9 +41,9 @@ pub fn update_lent(
     ensures { result ≡ updated_alone alone time sample_ms }
 {
     let ledger = alone.ledger;
-    alone.after(
+    alone.changed(
         check_sample(ledger, time, sample_ms),
         ledger.moved(time),
-        |estimator| (estimator.update_lent(time, sample_ms), ()),
+        |estimator| estimator.update_in_place(time, sample_ms),
     )
 }

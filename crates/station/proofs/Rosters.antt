@@ -1,5 +1,6 @@
 -- A step on each place of a list, one after the other. Assumes nothing.
-use Rattle.std.proofs.Common.{◌≡◌, ℕ, ◌+◌, ◌<◌, List, ◌++◌, length, take, drop, map, get_or, set, sym}
+-- Stays: what the loop of `Roster::budget_all` cites; std's `map_over_more` says it of `set`, here of the equations that a loop has.
+use Rattle.std.proofs.Common.{◌≡◌, ℕ, ◌+◌, ◌<◌, List, ◌++◌, length, take, drop, map, get_or, set}
 use Rattle.std.proofs.lemmas.List.Edits.{map_over_more}
 
 pub written_over :

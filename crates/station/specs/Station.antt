@@ -1,7 +1,7 @@
 -- The station (document 01, "Station (added)" and the two lists of numbers): what it holds, which reasons may apply to each of its
 -- calls, and what each call answers and leaves, worked out from the modules' own steps. Of a record and of the pool only the length
 -- is read; where the bytes go is said apart. Definitions only.
-use Rattle.std.specs.Prelude.{ℕ, ◌≡◌, ◌+◌, ◌*◌, min, Bool, true, false, not, ◌||◌, cond, List, [], ◌∷◌, ◌++◌, map, ltb, leb, eqb, Float, get_or, set, slice_get, option_map, replicate, take, drop, Option, Some, None, Result, Ok, Err}
+use Rattle.std.specs.Prelude.{ℕ, ◌≡◌, ◌+◌, ◌*◌, min, Bool, true, false, not, ◌||◌, cond, List, [], ◌∷◌, ◌++◌, map, leb, eqb, Float, get_or, set, slice_get, option_map, replicate, take, drop, Option, Some, None, Result, Ok, Err}
 use Rattle.config.specs.declared.alone.Left.{Left}
 use Rattle.config.specs.Config.{making_checks, is_invalid, failed_check, rates_beyond, floats_beyond, queues_beyond}
 use Rattle.config.specs.Ledger.{opened, resumed, moved, time_check, timed_checks, rate_checks}
@@ -12,11 +12,10 @@ use Rattle.config.specs.declared.ledger.Ledger.{Ledger}
 use Rattle.config.specs.declared.refusal.Refusal.{Refusal}
 use Rattle.config.specs.declared.refusal.Refusal.TheVariants.{SettingsInvalid, SettingsBeyond, WriterUnknown, WriterKnown, TableFull}
 use Rattle.std.specs.List.{list_any}
-use Rattle.queue.specs.Pool.{slots_of, limits_of}
+use Rattle.queue.specs.Pool.{Limits, slots_of, limits_of}
 use Rattle.queue.specs.declared.entry.InstanceKey.{InstanceKey}
 use Rattle.queue.specs.declared.fate.Fate.{Fate}
 use Rattle.queue.specs.declared.fate.Kept.{Kept}
-use Rattle.queue.specs.declared.pool.Limits.{Limits}
 use Rattle.pacing.specs.WriterPacer.{Pacer, pacer_config_of, made, fits, rate_set, handed_in, sent_if, hand_in_stored, sent_bytes}
 use Rattle.pacing.specs.WriterPacerAlone as alone
 use Rattle.pacing.specs.declared.writer_pacer.PacerConfig.{PacerConfig}

@@ -1,4 +1,5 @@
-// The calls of a station by value: each gives the station that it leaves, and the answer.
+// The calls of a station by value: each gives the station that it leaves, and the answer. Two lines each: one function over a closure for the
+// call would have to say what the closure leaves of a lent pool too.
 ghost use Rattle.std.specs.Prelude.{◌≡◌, length};
 ghost use Rattle.station.specs.Station.{resumed_station, registered_station, eagain_station, nacks_station, tos_station, rtt_station, ticked_station, rated_station, handed_station, pool_handed, sent_station};
 
@@ -58,6 +59,7 @@ impl<const P0: usize, const P1: usize, const P2: usize> Station<P0, P1, P2> {
         }
     }
 
+    // Stays: [5] the Rust's arguments of a sample and document 01's time; a struct of them would be made at each call and taken apart in it.
     pub fn after_rtt_sample(mut self, time: u64, peer_id: u32, rtt_ms: f32) -> Left<Self, ()>
         ensures { result ≡ rtt_station self.entry time peer_id rtt_ms }
     {
@@ -88,6 +90,7 @@ impl<const P0: usize, const P1: usize, const P2: usize> Station<P0, P1, P2> {
         }
     }
 
+    // Stays: [5] document 01's arguments of a hand-in, by the names that it gives them.
     pub fn handed(
         mut self,
         pool: &mut [u8],

@@ -1,10 +1,10 @@
 // The writers of a station, with a pacer each.
-ghost use Rattle.std.specs.Prelude.{◌≡◌, ◌<◌, ◌≤◌, true, min, eqb, option_copied};
+ghost use Rattle.std.specs.Prelude.{◌≡◌, ◌<◌, ◌≤◌, true, eqb, option_copied};
 ghost use Rattle.pacing.specs.WriterPacer.{fits, made, handed_in, sent_if, metrics_in};
-ghost use Rattle.station.specs.Station.{one_slot_each, no_pacer, no_writer_in, new_roster_in, roster_of, writer_of, writer_at, pacer_at, is_here, joined, with_pacer, budgeted, budgeted_all};
+ghost use Rattle.station.specs.Station.{no_writer_in, new_roster_in, roster_of, writer_of, writer_at, pacer_at, is_here, joined, with_pacer, budgeted, budgeted_all};
 ghost use Rattle.station.specs.Station as station;
 
-use config::config::{CongestionConfig, Priority};
+use config::config::Priority;
 use control::budget_allocator::WriterTable;
 use pacing::pacer_counts::WriterPacerMetrics;
 use pacing::send_action::SendAction;
@@ -31,6 +31,7 @@ impl<const P0: usize, const P1: usize, const P2: usize> Model for Writer<P0, P1,
 }
 
 // The writers, numbered from 0 as registered.
+// Stays: [6] an array and a count: all four places have a pacer, which is made anew in its place when a writer comes, and is shown before (`pacer`).
 #[derive(Drop)]
 pub struct Roster<const P0: usize, const P1: usize, const P2: usize> {
     writers: [Writer<P0, P1, P2>; MOST_WRITERS],
@@ -45,44 +46,12 @@ impl<const P0: usize, const P1: usize, const P2: usize> Model for Roster<P0, P1,
     ghost invariant = { λ r. r.count ≤ 4 };
 }
 
-// How many places a count takes.
-fn taken(count: u8) -> usize
-    ensures { result ≡ min count 4 }
-{
-    MOST_WRITERS.min(count as usize)
-}
-
 // Queues of one slot.
-fn one_slot_each() -> Limits
-    ensures { result ≡ one_slot_each }
-{
-    Limits::of(CongestionConfig {
-        max_queue_p0: 1,
-        max_queue_p1: 1,
-        max_queue_p2: 1,
-        ..CongestionConfig::new()
-    })
-}
-
-// The metrics of a pacer that nothing was handed to.
-fn no_metrics() -> WriterPacerMetrics
-    ensures { result ≡ metrics_in no_pacer }
-{
-    WriterPacerMetrics {
-        enqueued_p0: 0,
-        enqueued_p1: 0,
-        enqueued_p2: 0,
-        sent_p0: 0,
-        sent_p1: 0,
-        sent_p2: 0,
-        dropped_p1: 0,
-        coalesced_p2: 0,
-        dropped_p2: 0,
-        bytes_sent: 0,
-        rate_limited: 0,
-        force_sends_p0: 0,
-    }
-}
+const ONE_SLOT_EACH: Limits = Limits {
+    p0: 1,
+    p1: 1,
+    p2: 1,
+};
 
 impl<const P0: usize, const P1: usize, const P2: usize> Writer<P0, P1, P2> {
     // What stands in a place that no writer has, where there is room for a slot of each class.
@@ -91,7 +60,7 @@ impl<const P0: usize, const P1: usize, const P2: usize> Writer<P0, P1, P2> {
     {
         Some(Writer {
             id: 0,
-            pacer: WriterPacer::new(0, one_slot_each(), 0)?,
+            pacer: WriterPacer::new(0, ONE_SLOT_EACH, 0)?,
         })
     }
 
@@ -134,7 +103,7 @@ impl<const P0: usize, const P1: usize, const P2: usize> Roster<P0, P1, P2> {
     pub(crate) fn is_here(&self, id: u64) -> bool
         ensures { result ≡ is_here self.now id }
     {
-        let writers = &self.writers[..taken(self.count)];
+        let writers = &self.writers[..self.count as usize];
         writers.iter().any(
             |writer| -> bool
                 ensures { result ≡ eqb writer.now.id id }
@@ -153,6 +122,7 @@ impl<const P0: usize, const P1: usize, const P2: usize> Roster<P0, P1, P2> {
     }
 
     // A record of `length` bytes to pacer i; the key is P2's. Where it is kept.
+    // Stays: [5] `i < 4` is asked by two private calls and told by the two checks before them; a type for it would be made in one and read in the next.
     pub(crate) fn hand_in(&mut self, i: u8, class: Priority, key: InstanceKey, length: u64) -> Kept
         requires { i < 4 }
         ensures after { self.new ≡ with_pacer self.old i (handed_in (writer_at self.old i).pacer class key length).0 }
@@ -173,11 +143,13 @@ impl<const P0: usize, const P1: usize, const P2: usize> Roster<P0, P1, P2> {
     }
 
     // New budgets reach the pacers.
+    #[tactic(auto, using(crate::proofs::Rosters::written_over), unfolding(crate::specs::Station::budgeted_all))]
     pub(crate) fn budget_all(&mut self, config: PacerConfig, time: u64, table: &WriterTable)
         ensures { self.new ≡ budgeted_all config time table.now self.old }
     {
-        for k in 0..taken(self.count) {
-            self.writers[k].budget(config, time, table);
+        let writers = &mut self.writers[..self.count as usize];
+        for writer in writers.iter_mut() {
+            writer.budget(config, time, table);
         }
     }
 
@@ -192,6 +164,7 @@ impl<const P0: usize, const P1: usize, const P2: usize> Roster<P0, P1, P2> {
     }
 
     // The id of the writer with a number, 0 where there is no such place.
+    // Stays: [1] a public call that could not fail still can't.
     pub fn id(&self, i: u8) -> u64
         ensures { result ≡ (writer_at self.now i).id }
     {
@@ -207,7 +180,7 @@ impl<const P0: usize, const P1: usize, const P2: usize> Roster<P0, P1, P2> {
     {
         match self.writers.get(i as usize) {
             Some(writer) => writer.pacer.metrics(),
-            None => no_metrics(),
+            None => WriterPacerMetrics::default(),
         }
     }
 
@@ -216,7 +189,6 @@ impl<const P0: usize, const P1: usize, const P2: usize> Roster<P0, P1, P2> {
         ensures value { result ≡ self.now.count }
         ensures upper_bound { result ≤ 4 }
     {
-        let _writers = &self.writers;
         self.count
     }
 }

@@ -19,6 +19,7 @@ use pacing::writer_pacer::{PacerConfig, WriterPacer};
 use pacing::{send_action, writer_pacer_alone};
 use queue::entry::InstanceKey;
 use queue::fate::Fate;
+use queue::pool;
 use queue::pool::Limits;
 use signals::rtt_estimator::check_sample;
 use std::marker::Model;
@@ -30,16 +31,18 @@ pub struct StationConfig {
     pub(crate) pacer: PacerConfig,
 }
 
-impl StationConfig {
-    pub fn of(config: CongestionConfig) -> StationConfig
-        ensures { result ≡ station_config_of config }
-    {
+impl From<CongestionConfig> for StationConfig {
+    ghost from_gives = { λ config settings. settings ≡ station_config_of config };
+
+    fn from(config: CongestionConfig) -> StationConfig {
         StationConfig {
-            controller: ControllerConfig::from_config(config),
-            pacer: PacerConfig::of(config),
+            controller: ControllerConfig::from(config),
+            pacer: PacerConfig::from(config),
         }
     }
+}
 
+impl StationConfig {
     pub fn controller(self) -> ControllerConfig
         ensures { result ≡ self.controller }
     {
@@ -57,7 +60,7 @@ impl StationConfig {
 fn slots_needed(limits: Limits) -> usize
     ensures { result ≡ slots_needed limits }
 {
-    4 * limits.slots()
+    4 * pool::slots(limits)
 }
 
 // The queues of its pacers have room for P0, P1 and P2 records.
@@ -65,10 +68,8 @@ fn slots_needed(limits: Limits) -> usize
 pub struct Station<const P0: usize, const P1: usize, const P2: usize> {
     pub(crate) ledger: Ledger,
     config: StationConfig,
-    // Rate, score, peers and the writers' rows.
-    pub controller: CongestionController,
-    // The writers and their pacers.
-    pub roster: Roster<P0, P1, P2>,
+    controller: CongestionController,
+    roster: Roster<P0, P1, P2>,
 }
 
 impl<const P0: usize, const P1: usize, const P2: usize> Model for Station<P0, P1, P2> {
@@ -86,27 +87,26 @@ impl<const P0: usize, const P1: usize, const P2: usize> Station<P0, P1, P2> {
         ensures room { OnOk result (fits P0 P1 P2 (limits_of config) ≡ true) }
     {
         config.check()?;
-        let has_room = WriterPacer::<P0, P1, P2>::fits(Limits::of(config));
+        let has_room = WriterPacer::<P0, P1, P2>::fits(pool::limits_of(config));
         Refusal::SettingsBeyond.when(!has_room)?;
         check_time(time)
     }
 
     // A station that no writer has joined, or 1, 2 or 7; its first last time is the time given.
+    #[tactic(auto, using(crate::proofs::Rooms::one_each_fits), unfolding(crate::specs::Station::made_station, crate::specs::Station::made_by))]
     pub fn new(config: CongestionConfig, time: u64) -> Result<Self, Refusal>
         ensures { result ≡ made_station P0 P1 P2 config time }
     {
         Self::check_making(config, time)?;
-        let settings = StationConfig::of(config);
-        match Roster::new() {
-            Some(roster) => Ok(Station {
-                ledger: Ledger::new(time),
-                config: settings,
-                controller: CongestionController::new(settings.controller, time),
-                roster,
-            }),
-            // Never: where there is room for the limits there is room for a slot.
-            None => Err(Refusal::SettingsBeyond),
-        }
+        let settings = StationConfig::from(config);
+        // Never refused here: where there is room for the limits there is room for a slot.
+        let roster = Roster::new().ok_or(Refusal::SettingsBeyond)?;
+        Ok(Station {
+            ledger: Ledger::new(time),
+            config: settings,
+            controller: CongestionController::new(settings.controller, time),
+            roster,
+        })
     }
 
     // 7, 17, 11, 16 and 14.
@@ -290,6 +290,20 @@ impl<const P0: usize, const P1: usize, const P2: usize> Station<P0, P1, P2> {
         ensures { result ≡ self.now.config }
     {
         self.config
+    }
+
+    // Rate, score, peers and the writers' rows.
+    pub fn controller(&self) -> &CongestionController
+        ensures { result.now ≡ self.now.controller }
+    {
+        &self.controller
+    }
+
+    // The writers and their pacers.
+    pub fn roster(&self) -> &Roster<P0, P1, P2>
+        ensures { result.now ≡ self.now.roster }
+    {
+        &self.roster
     }
 
     // The Rust's metrics of pacer i; where there is no such place all are 0.

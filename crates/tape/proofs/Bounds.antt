@@ -1,8 +1,9 @@
 -- A buffer of 24 bytes and 192 for each word holds the lines of every tape ("The tape"): a line has at most 168 bytes, and each
 -- has a word of its own but a missing end's, which has at most 23. Assumes nothing.
+-- Stays: the steps to `enough`, which run needs and docs/GUARANTEES.md names; they are of stations and lines, of which std has nothing.
 use Prim.Native.Nat.{ℕ, zero, suc, ◌+◌, ◌-◌, ◌*◌, ◌^◌, ◌≤◌, ◌<◌}
-use mathlib.Core.List.{List, [], ◌∷◌, ◌++◌, map, append-nil}
-use mathlib.Core.Path.{◌≡◌, refl, ap}
+use mathlib.Core.List.{List, [], ◌∷◌, ◌++◌, map, append-nil, append_assoc}
+use mathlib.Core.Path.{◌≡◌, refl, sym, ap}
 use Rattle.std.proofs.Common.{Bool, true, false, Result, Ok, Err}
 use native.Mathlib.Omega.{arith}
 use borrow.Author.Tests.{leb-false}
@@ -11,8 +12,10 @@ use lib.Ieee.{Float, binary32, of_bits, of_int, mul, div}
 use lib.Ieee.Casts.{to_unsigned-lt}
 use lib.IntN.{pos}
 use lib.ListN.{length, take, drop, length-append, length-take}
+use Rattle.std.proofs.lemmas.List.Elements.{All-nil, All-cons, All-head, All-tail, All-append, All-take, All-drop, All-replicate, All-map, All-weaker}
+use Rattle.std.specs.List.{All}
 use Rattle.config.proofs.Refusals.{none_where_accepted}
-use Rattle.config.specs.Refusal.{number_of, verdict_of, none_number, result_number}
+use Rattle.config.specs.Refusal.{accepted, number_of, verdict_of, none_number, result_number}
 use Rattle.config.specs.declared.alone.Left.{Left}
 use Rattle.config.specs.declared.config.Priority.{Priority}
 use Rattle.config.specs.declared.refusal.Refusal.{Refusal}
@@ -21,7 +24,7 @@ use Rattle.numeric.proofs.Choice.{by_test}
 use Rattle.numeric.specs.Float.{scaled}
 use Rattle.queue.specs.declared.entry.InstanceKey.{InstanceKey}
 use Rattle.signals.specs.RttEstimator.{any_inflated}
-use Rattle.control.specs.BudgetAllocator.{new_writer, blank_writer, taken_of, new_table, writers_of, place_of, place_for, with_row, without_row, entered, without, share_of, shares_of, budget_for, with_budget, allotted_table, one, registered, reallocated}
+use Rattle.control.specs.BudgetAllocator.{new_writer, blank_writer, taken_of, new_table, writers_of, place_of, place_for, lacking, with_row, without_row, entered, without, share_of, shares_of, budget_for, with_budget, allotted_table, one, registered, reallocated}
 use Rattle.control.specs.Controller.{new_controller, registered_in, sampled, CoreTicked, ControllerTicked, ticked_with, core_ticked, controller_ticked, controller_set}
 use Rattle.control.specs.declared.budget_allocator.AllocationConfig.{AllocationConfig}
 use Rattle.control.specs.declared.budget_allocator.BudgetAllocator.{BudgetAllocator}
@@ -31,14 +34,13 @@ use Rattle.control.specs.declared.budget_allocator.WriterTable.{WriterTable}
 use Rattle.control.specs.declared.controller.CongestionController.{CongestionController}
 use Rattle.station.specs.Station.{Station, joined, with_pacer, left_by, register_checks, register_leaves, registered_station, eagain_station, nacks_station, tos_station, rtt_station, budgeted_all, tick_leaves, ticked_station, rated_station, handed_station, sent_station}
 use Rattle.tape.specs.Item.{words_of, item_at, takes, placed, is_end, stops, items_from, items_of}
-use Rattle.tape.specs.Run.{Player, player_of, new_player, fields, updates, told_text, Line, line_of, flag_number, updates_of, tick_told, rate_told, Step, silent, saying, ticked, rated, played, lines_of, text_of, tape_text}
+use Rattle.tape.specs.Run.{Player, player_of, new_player, fields, updates, told_text, Line, line_of, updates_of, tick_told, rate_told, Step, silent, saying, ticked, rated, played, lines_of, text_of, tape_text}
 use Rattle.tape.specs.Text.{decimal_by, fields_text, line_text}
 use Rattle.tape.specs.declared.item.Item.{Item}
 use Rattle.tape.specs.declared.item.Item.TheVariants.{End, Broken, Advance, Register, Eagain, Tos, Nacks, Rtt, Tick, HandIn, Send, SetRate}
 use Rattle.tape.specs.declared.item.Placed.{Placed}
 use Rattle.tape.specs.declared.text.Fields.{Fields}
 use Rattle.tape.specs.declared.text.Fields.TheVariants.{Nothing}
-use Rattle.tape.proofs.Each.{Each, each_append, each_take, each_drop, each_lacking, each_replicate, each_map}
 use Rattle.tape.proofs.Items.{IsShortId, item_id}
 use Rattle.tape.proofs.Texts.{short, short-end, short-updates, IsNarrow}
 
@@ -47,19 +49,19 @@ use Rattle.tape.proofs.Texts.{short, short-end, short-updates, IsNarrow}
 -- at most n writers, and every row is narrow, taken or not
 pub record IsSmall (t : WriterTable) (n : ℕ) : Type 0 where
   pub few : t.count ≤ n
-  pub narrow : Each IsNarrow t.rows
+  pub narrow : All IsNarrow t.rows
 
 narrow-blank : IsNarrow blank_writer
 narrow-blank = (omega arith, omega arith, omega arith)
 
 small_new : IsSmall new_table 0
-small_new = record { few = omega arith; narrow = each_replicate IsNarrow 64 blank_writer narrow-blank }
+small_new = record { few = omega arith; narrow = All-replicate IsNarrow 64 blank_writer narrow-blank }
 
 writers_few : (t : WriterTable) (n : ℕ) → IsSmall t n → length (writers_of t) ≤ n
 writers_few t n ok = rw length-take (omega (arith, ok.few))
 
-writers_narrow : (t : WriterTable) (n : ℕ) → IsSmall t n → Each IsNarrow (writers_of t)
-writers_narrow t n ok = each_take IsNarrow (taken_of t.count) t.rows ok.narrow
+writers_narrow : (t : WriterTable) (n : ℕ) → IsSmall t n → All IsNarrow (writers_of t)
+writers_narrow t n ok = All-take IsNarrow (taken_of t.count) t.rows ok.narrow
 
 -- a part of a rate is a number of 32 bits
 scaled-most : (n : ℕ) (x : Float) → scaled n x < 2 ^ 32
@@ -86,10 +88,18 @@ small-reallocated a c rate n ok =
     record {
       few = ok.few;
       narrow =
-          each_append IsNarrow (map (with_budget s) (writers_of t)) (drop (taken_of t.count) t.rows)
-          (each_map IsNarrow (with_budget s) (narrow_budget s) (writers_of t) (writers_narrow t n ok))
-          (each_drop IsNarrow (taken_of t.count) t.rows ok.narrow);
+          All-append IsNarrow (map (with_budget s) (writers_of t)) (drop (taken_of t.count) t.rows)
+          (All-map IsNarrow (with_budget s) (writers_of t)
+          (All-weaker IsNarrow (λ w. IsNarrow (with_budget s w)) (narrow_budget s) (writers_of t) (writers_narrow t n ok)))
+          (All-drop IsNarrow (taken_of t.count) t.rows ok.narrow);
     }
+
+narrow_lacking : (ws : List WriterInfo) (k : ℕ) → All IsNarrow ws → All IsNarrow (lacking ws k)
+unfolding lacking
+narrow_lacking [] k h = h
+narrow_lacking (w ∷ ws) zero h = All-tail IsNarrow w ws h
+narrow_lacking (w ∷ ws) (suc k) h =
+    All-cons IsNarrow w (lacking ws k) (All-head IsNarrow w ws h) (narrow_lacking ws k (All-tail IsNarrow w ws h))
 
 -- a writer taken out
 small-without : (t : WriterTable) (id n : ℕ) → IsSmall t n → IsSmall (without t id) n
@@ -99,7 +109,9 @@ small-without t id n ok =
     (λ e.
     record {
       few = omega (arith, ok.few);
-      narrow = each_lacking IsNarrow _ _ (each_append IsNarrow t.rows (blank_writer ∷ []) ok.narrow (narrow-blank, tt));
+      narrow =
+          narrow_lacking _ _
+          (All-append IsNarrow t.rows (blank_writer ∷ []) ok.narrow (All-cons IsNarrow blank_writer [] narrow-blank (All-nil IsNarrow)));
     })
     (λ e. ok)
 
@@ -113,9 +125,9 @@ small-entered t w n new ok =
     record {
       few = omega (arith, ok.few);
       narrow =
-          each_lacking IsNarrow _ _
-          (each_append IsNarrow (take k t.rows) (w ∷ drop k t.rows) (each_take IsNarrow k t.rows ok.narrow)
-          (new, each_drop IsNarrow k t.rows ok.narrow));
+          narrow_lacking _ _
+          (All-append IsNarrow (take k t.rows) (w ∷ drop k t.rows) (All-take IsNarrow k t.rows ok.narrow)
+          (All-cons IsNarrow w (drop k t.rows) new (All-drop IsNarrow k t.rows ok.narrow)));
     })
     (λ e. record { few = omega (arith, ok.few); narrow = ok.narrow })
 
@@ -232,7 +244,7 @@ steady_ticked : (p : Player) (k : ℕ) (x : Left Station Bool) → IsBounded x.s
 unfolding tick_told
 steady_ticked p k x ok = go x.answer
   where
-    go : (r : Result Bool Refusal) → IsSteady (saying (line_of k (flag_number r) (tick_told (updates_of x.state) r)) (player_of x.state p.clock p.pool))
+    go : (r : Result Bool Refusal) → IsSteady (saying (line_of k (result_number (λ b. accepted) r) (tick_told (updates_of x.state) r)) (player_of x.state p.clock p.pool))
     go (Ok true) = steady_updates (player_of x.state p.clock p.pool) k _ ok
     go (Ok false) = steady_fields (player_of x.state p.clock p.pool) k _ _ ok
     go (Err e) = steady_fields (player_of x.state p.clock p.pool) k _ _ ok
@@ -262,10 +274,10 @@ steady_played bytes p k (SetRate rate) s ok = steady_rated p k _ (bounded-rated 
 
 -- ---- the whole tape
 
-length-append_text : (a b : List Line) → length (text_of (a ++ b)) ≡ length (text_of a) + length (text_of b)
+pub text_append : (a b : List Line) → text_of (a ++ b) ≡ text_of a ++ text_of b
 unfolding text_of
-length-append_text [] b = omega arith
-length-append_text (l ∷ a) b = simp (length-append, length-append_text a b) (omega arith)
+text_append [] b = refl
+text_append (l ∷ a) b = rw (text_append a b) (sym (append_assoc (line_text l.index l.answer (told_text l.told)) (text_of a) (text_of b)))
 
 module _ (bytes : List ℕ) where
   -- how many bytes the items print
@@ -280,7 +292,7 @@ module _ (bytes : List ℕ) where
       (p : Player) (k : ℕ) (item : Item) (items : List Placed)
       → printed p (placed k item ∷ items) ≡ length (text_of (played bytes p k item).lines) + printed (played bytes p k item).player items
   unfolding lines_of
-  printed-next p k item items = length-append_text (played bytes p k item).lines _
+  printed-next p k item items = simp (text_append, length-append)
 
   printed-end : (p : Player) (k : ℕ) → printed p (placed k Broken ∷ []) ≡ length (line_text k (number_of KindUnknown) (fields_text Nothing))
   unfolding lines_of played

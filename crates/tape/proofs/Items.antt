@@ -1,4 +1,5 @@
 -- The list of items, one item at a time: an item that does not stop the tape is whole, and the list goes on behind it. Assumes nothing.
+-- Stays: what Items, Player's play and play_all, and Bounds go by, and the worked tape's items, which docs/GUARANTEES.md names; std has none of tapes.
 use Prim.Native.Nat.{ℕ, zero, suc, ◌+◌, ◌-◌, ◌/◌, ◌%◌, ◌^◌, ◌≤◌, ◌<◌}
 use mathlib.Core.Bool.{false, true≢false}
 use mathlib.Core.List.{List, [], ◌∷◌}
@@ -10,6 +11,7 @@ use borrow.Author.Tests.{leb-true, lt-leb}
 use lib.Dec.{leb, eqb}
 use lib.ListN.{length, length-take, length-drop}
 use Rattle.std.proofs.lemmas.Grind.{common_steps}
+use Rattle.std.specs.List.{AllByRecursion}
 use Rattle.std.proofs.Common.{Result, Ok, Err}
 use Rattle.config.specs.Config.{class_of}
 use Rattle.config.specs.declared.config.Priority.{Priority}
@@ -19,7 +21,6 @@ use Rattle.numeric.proofs.Choice.{by_test}
 use Rattle.queue.specs.Pool.{piece}
 use Rattle.tape.specs.Item.{words_of, whole_words, words_from, word_at, kind_of, value_of, whole, classed, register_of, signal_of, hand_in_words, hand_in_by, hand_in_of, item_by, item_of, item_at, takes, body_at, placed, is_end, stops, items_from, items_of, items_at, Stands}
 use Rattle.tape.specs.declared.item.Placed.{Placed}
-use Rattle.tape.proofs.Each.{Each}
 use Rattle.tape.specs.declared.item.Item.{Item}
 use Rattle.tape.specs.declared.item.Item.TheVariants.{End, Broken, Advance, Register, Eagain, Tos, Nacks, Rtt, Tick, HandIn, Send, SetRate}
 
@@ -120,6 +121,10 @@ module _ (bytes : List ℕ) (k : ℕ) (first : k + 1 ≤ whole_words bytes) wher
 
   inside : (word : ℕ) → Inside (item_of bytes k word)
   inside word = inside-kind (kind_of word) (value_of word) (omega arith)
+
+-- an item's first word
+pub first_word : (bytes : List ℕ) (k : ℕ) → word_at bytes (k + 0) ≡ word_at bytes k
+first_word bytes k = rw add-zero
 
 module _ (bytes : List ℕ) where
   -- an item that does not stop the tape is whole
@@ -248,17 +253,17 @@ module _ (bytes : List ℕ) where
 
 module _ (bytes : List ℕ) where
   stand_from :
-      (left k pass : ℕ) → words bytes ≤ k + left → Each (Stands bytes) (items_from left bytes k pass)
+      (left k pass : ℕ) → words bytes ≤ k + left → AllByRecursion (Stands bytes) (items_from left bytes k pass)
   unfolding items_from
   stand_from zero k pass h = (item_missing bytes k (omega arith), tt)
   stand_from (suc left) k zero h =
-      by_test (Each (Stands bytes)) (stops (item_at bytes k))
-      (λ e. by_test (Each (Stands bytes)) (is_end (item_at bytes k)) (λ q. tt) (λ q. (refl, tt)))
+      by_test (AllByRecursion (Stands bytes)) (stops (item_at bytes k))
+      (λ e. by_test (AllByRecursion (Stands bytes)) (is_end (item_at bytes k)) (λ q. tt) (λ q. (refl, tt)))
       (λ e. (refl, stand_from left (suc k) (takes (item_at bytes k) - 1) (omega arith)))
   stand_from (suc left) k (suc pass) h = stand_from left (suc k) pass (omega arith)
 
   -- every item stands at its index
-  pub items_stand : Each (Stands bytes) (items_of bytes)
+  pub items_stand : AllByRecursion (Stands bytes) (items_of bytes)
   unfolding items_of
   items_stand = stand_from (words bytes) 0 0 (omega arith)
 
@@ -267,11 +272,13 @@ pub ruleset item_steps = (common_steps, items_end, items_broken, items_more, ite
 -- ---- examples
 
 -- the whole tape of document 01, "20000004 20000009 30000000 100186A0 40000000 60000000 00000000"
+-- Stays: the two theorems about document 01's tape, which docs/GUARANTEES.md names, are about it.
 abbrev pub whole_tape : List ℕ
 whole_tape =
     0x04 ∷ 0x00 ∷ 0x00 ∷ 0x20 ∷ 0x09 ∷ 0x00 ∷ 0x00 ∷ 0x20 ∷ 0x00 ∷ 0x00 ∷ 0x00 ∷ 0x30 ∷ 0xA0 ∷ 0x86 ∷ 0x01 ∷ 0x10
     ∷ 0x00 ∷ 0x00 ∷ 0x00 ∷ 0x40 ∷ 0x00 ∷ 0x00 ∷ 0x00 ∷ 0x60 ∷ 0x00 ∷ 0x00 ∷ 0x00 ∷ 0x00 ∷ []
 
+-- Stays: a theorem that docs/GUARANTEES.md names.
 pub whole_tape_items :
     items_of whole_tape
     ≡ placed 0 (Register P0 1) ∷ placed 1 (Register P1 2) ∷ placed 2 Eagain ∷ placed 3 (Advance 100000) ∷ placed 4 Tick ∷ placed 5 (Send 0) ∷ []

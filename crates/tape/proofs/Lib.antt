@@ -1,4 +1,3 @@
-pub mod Each
 pub mod Items
 pub mod Texts
 pub mod Bounds

@@ -1,5 +1,6 @@
 -- The text of a run, one item at a time. Assumes nothing.
-use Rattle.std.proofs.Common.{◌≡◌, refl, sym, ◌∙◌, ℕ, ◌≤◌, List, [], ◌∷◌, ◌++◌, length, append_assoc, arith, Ok, ltb, ltb-false, false}
+-- Stays: the sets of lemmas that run, play_tape, play_all and play cite (`using`), and their lemmas; std has none of runs.
+use Rattle.std.proofs.Common.{◌≡◌, refl, sym, ◌∙◌, ℕ, ◌≤◌, List, [], ◌∷◌, length, arith, Ok, ltb, ltb-false, false}
 use lib.Ieee.{le, of_bits}
 use Rattle.std.proofs.lemmas.Grind.{common_steps}
 use Rattle.std.specs.Borrow.{MutBor}
@@ -7,18 +8,13 @@ use Rattle.config.specs.Config.{failed_check, not_in_open_closed, not_in_open, n
 use Rattle.config.specs.Refusal.{verdict_of}
 use Rattle.station.specs.Station.{made_by, made_station}
 use Rattle.tape.specs.Item.{items_of}
-use Rattle.tape.specs.Run.{Player, tape_settings, new_player, Line, told_text, played, lines_of, text_of, tape_text, room_for, lines_left}
-use Rattle.tape.specs.Text.{added, lines_in, header, line_text}
+use Rattle.tape.specs.Run.{Player, tape_settings, new_player, played, lines_of, text_of, tape_text, room_for, lines_left}
+use Rattle.tape.specs.Text.{added, lines_in, header}
 use Rattle.tape.specs.declared.item.Placed.{Placed}
 use Rattle.tape.specs.declared.text.Lines.{Lines}
-use Rattle.tape.proofs.Bounds.{enough}
-use Rattle.tape.proofs.Items.{items_stand}
+use Rattle.tape.proofs.Bounds.{enough, text_append}
+use Rattle.tape.proofs.Items.{items_stand, body_whole}
 use Rattle.tape.proofs.Texts.{added_both, added_nothing, filled}
-
-text_append : (a b : List Line) → text_of (a ++ b) ≡ text_of a ++ text_of b
-unfolding text_of
-text_append [] b = refl
-text_append (l ∷ a) b = rw (text_append a b) (sym (append_assoc (line_text l.index l.answer (told_text l.told)) (text_of a) (text_of b)))
 
 -- an item's lines put behind what stands there, the rest of the run stays as it was
 pub told_more :
@@ -35,7 +31,10 @@ told_all bytes ls p xs e = rw e (sym (added_nothing ls))
 
 pub ruleset told_steps = (common_steps, told_more, told_all, items_stand)
 
+pub ruleset play_steps = (common_steps, added_nothing, added_both, body_whole)
+
 -- the whole run told, the buffer holds the tape's text and what stood behind it
+-- Stays: run cites it, by the set run_steps.
 pub run_ends :
     (bytes : List ℕ) (b : MutBor (List ℕ))
     → ltb (length b.now) (room_for (length bytes)) ≡ false → length (tape_text bytes) ≤ room_for (length bytes)

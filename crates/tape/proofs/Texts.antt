@@ -1,10 +1,15 @@
 -- Laws of texts put one after the other, and how long numbers and lines are. Assumes nothing.
+-- Stays: what the functions of text.rt, the runs and the bound of Bounds go by, and examples that docs/GUARANTEES.md names; of std are the lists and the digits.
 use native.Mathlib.Decide.{dec_le}
-use Rattle.std.proofs.Common.{◌≡◌, refl, sym, ap, ◌∙◌, ℕ, zero, suc, ◌+◌, ◌*◌, ◌/◌, ◌%◌, ◌^◌, ◌≤◌, ◌<◌, min, max, Bool, true, false, cond, ltb, lt-ltb, le-ltb, ltb-false, List, [], ◌∷◌, ◌++◌, length, drop, set, arith, length-append, length-set}
-use Rattle.std.proofs.Math.Nat.{add-zero, pow-suc}
-use Rattle.std.proofs.Math.Seq.{set_out, sets, sets-eq}
+use Rattle.std.proofs.Common.{rules, ◌≡◌, refl, sym, ◌∙◌, ℕ, zero, suc, ◌+◌, ◌*◌, ◌/◌, ◌%◌, ◌^◌, ◌≤◌, ◌<◌, min, max, Bool, true, false, cond, ltb, List, [], ◌∷◌, ◌++◌, length, drop, set, arith, length-append}
+use Rattle.std.proofs.Math.Nat.{add-zero}
+use Rattle.std.proofs.Math.Seq.{set_out, sets, length-sets, sets-eq}
+use Rattle.std.proofs.lemmas.Fmt.{AppendsLastDigit, decimal_from_appends, length-decimal-le}
 use Rattle.std.proofs.lemmas.Grind.{common_steps}
+use Rattle.std.proofs.lemmas.List.Elements.{All-head, All-tail}
 use Rattle.std.specs.Borrow.{MutBor}
+use Rattle.std.specs.Fmt as fmt
+use Rattle.std.specs.List.{All}
 use Rattle.config.specs.Config.{class_number}
 use Rattle.config.specs.Refusal.{number_of}
 use Rattle.config.specs.declared.config.Priority.TheVariants.{P0, P1}
@@ -15,14 +20,16 @@ use Rattle.tape.specs.Text.{lines_in, written, ended, added, decimal_by, decimal
 use Rattle.tape.specs.declared.text.Fields.{Fields}
 use Rattle.tape.specs.declared.text.Fields.TheVariants.{Nothing, Flag, Unchanged, Sent, Empty, Wait}
 use Rattle.tape.specs.declared.text.Lines.{Lines}
-use Rattle.tape.proofs.Each.{Each}
 
 -- ---- texts one after the other
 
-length-written : (ls : List ℕ) (at : ℕ) (text : List ℕ) → length (written ls at text) ≡ length ls
+written-sets : (ls : List ℕ) (at : ℕ) (text : List ℕ) → written ls at text ≡ sets ls at text
 unfolding written
-length-written ls at [] = refl
-length-written ls at (b ∷ bs) = length-written (set ls at b) (suc at) bs ∙ length-set ls at b
+written-sets ls at [] = refl
+written-sets ls at (b ∷ bs) = written-sets (set ls at b) (suc at) bs
+
+length-written : (ls : List ℕ) (at : ℕ) (text : List ℕ) → length (written ls at text) ≡ length ls
+length-written ls at text = rw written-sets (length-sets ls at text)
 
 -- beyond the end nothing is written
 written_beyond : (ls : List ℕ) (at : ℕ) (text : List ℕ) → length ls ≤ at → written ls at text ≡ ls
@@ -86,11 +93,6 @@ added_beyond ls b h =
 
 -- ---- where there is room
 
-written-sets : (ls : List ℕ) (at : ℕ) (text : List ℕ) → written ls at text ≡ sets ls at text
-unfolding written
-written-sets ls at [] = refl
-written-sets ls at (b ∷ bs) = written-sets (set ls at b) (suc at) bs
-
 -- a text that fits a buffer without lines lies at its front, and the bytes behind it stay
 pub filled :
     (bytes : MutBor (List ℕ)) (text : List ℕ) → length text ≤ length bytes.now
@@ -103,31 +105,19 @@ filled bytes text h =
 
 -- ---- digits
 
--- more digits than a number has make no difference
-decimal_more : (f n : ℕ) → n < 10 ^ suc f → decimal_by (suc f) n ≡ decimal_by (suc (suc f)) n
+appends : AppendsLastDigit decimal_by
 unfolding decimal_by
-decimal_more zero n h = rw (lt-ltb n 10 h)
-decimal_more (suc f) n h =
-    let few : n / 10 < 10 ^ suc f = omega (arith, pow-suc 10 (suc f)) in
-    ap (λ (digits : List ℕ). cond (ltb n 10) (glyph n ∷ []) (digits ++ (glyph (n % 10) ∷ []))) (decimal_more f (n / 10) few)
+appends = search rules
 
-pub decimal_grown : (n : ℕ) → 10 ≤ n → n < 2 ^ 64 → decimal (n / 10) ++ ((48 + n % 10) ∷ []) ≡ decimal n
-unfolding decimal_by
-decimal_grown n h q =
-    rw (le-ltb n 10 h)
-    (ap (λ (digits : List ℕ). digits ++ (glyph (n % 10) ∷ [])) (sym (decimal_more 18 (n / 10) (omega arith))))
-
-pub decimal_digit : (n : ℕ) → n < 10 → ((48 + n % 10) ∷ []) ≡ decimal n
-unfolding decimal_by
-decimal_digit n h = let e : n % 10 ≡ n = omega arith in rw (lt-ltb n 10 h, e)
+-- a number's digits are those that std prints
+pub decimal_is : (n : ℕ) → n < 2 ^ 64 → fmt.decimal n ≡ decimal n
+decimal_is n h = sym (decimal_from_appends decimal_by appends 20 n h (length-decimal-le 20 n (omega arith) (omega arith) h))
 
 -- ---- what the writers of lines go by
 
 pub ruleset put_steps = (common_steps, added_inside, added_beyond)
 
 pub ruleset text_steps = (common_steps, added_nothing, added_both)
-
-pub ruleset digit_steps = (common_steps, added_both, decimal_grown, decimal_digit)
 
 -- ---- how long numbers and lines are
 
@@ -140,24 +130,9 @@ digits_most (suc f) n = go (ltb n 10) (digits_most f (n / 10))
     go true h = omega arith
     go false h = rw length-append (omega arith)
 
--- what is left of a number with its last digit gone has a digit less
-fewer : (k n : ℕ) → 10 ≤ n → n < 10 ^ suc k → (1 ≤ k) × (n / 10 < 10 ^ k)
-fewer zero n h q = absurd (omega arith)
-fewer (suc k) n h q = (omega arith, omega (arith, pow-suc 10 (suc k)))
-
 -- a number below 10 ^ k has at most k digits
-pub digits_few : (f k n : ℕ) → 1 ≤ k → n < 10 ^ k → length (decimal_by f n) ≤ k
-unfolding decimal_by
-digits_few zero k n h q = omega arith
-digits_few (suc f) zero n h q = absurd (omega arith)
-digits_few (suc f) (suc k) n h q = go (ltb n 10) refl (digits_few f k (n / 10))
-  where
-    go : (t : Bool) → ltb n 10 ≡ t → (1 ≤ k → n / 10 < 10 ^ k → length (decimal_by f (n / 10)) ≤ k)
-        → length (cond t (glyph n ∷ []) (decimal_by f (n / 10) ++ (glyph (n % 10) ∷ []))) ≤ suc k
-    go true e ih = omega arith
-    go false e ih =
-        let r = fewer k n (ltb-false n 10 e) q in
-        rw length-append (omega (arith, ih r.0 r.1))
+pub digits_few : (k n : ℕ) → 1 ≤ k → n < 10 ^ k → n < 2 ^ 64 → length (decimal n) ≤ k
+digits_few k n h q small = rw (← decimal_is n small) (length-decimal-le k n h q small)
 
 line_length :
     (index answer : ℕ) (fields : List ℕ)
@@ -185,7 +160,7 @@ short index answer fields =
 pub short-end : (index : ℕ) → length (line_text index (number_of KindUnknown) (fields_text Nothing)) ≤ 23
 unfolding fields_text
 short-end index =
-    rw line_length (omega (arith, digits_most 20 index, digits_few 20 1 (number_of KindUnknown) (omega arith) (omega arith)))
+    rw line_length (omega (arith, digits_most 20 index, digits_few 1 (number_of KindUnknown) (omega arith) (omega arith) (omega arith)))
 
 -- an id of at most 8 digits, and budgets of at most 10
 abbrev pub IsNarrow : WriterInfo → Type 0
@@ -197,15 +172,15 @@ update_length w h =
     simp length-append
     (omega (
       arith,
-      digits_few 20 8 w.id (omega arith) h.0,
-      digits_few 20 10 w.budget_bps (omega arith) h.1,
-      digits_few 20 10 w.previous_bps (omega arith) h.2,
+      digits_few 8 w.id (omega arith) h.0 (omega arith),
+      digits_few 10 w.budget_bps (omega arith) h.1 (omega arith),
+      digits_few 10 w.previous_bps (omega arith) h.2 (omega arith),
     ))
 
-each-length : (ws : List WriterInfo) → Each IsNarrow ws → length (each_text ws) ≤ 31 * length ws
+each-length : (ws : List WriterInfo) → All IsNarrow ws → length (each_text ws) ≤ 31 * length ws
 unfolding each_text
 each-length [] h = omega arith
-each-length (w ∷ ws) h = rw length-append (omega (arith, update_length w h.0, each-length ws h.1))
+each-length (w ∷ ws) h = rw length-append (omega (arith, update_length w (All-head IsNarrow w ws h), each-length ws (All-tail IsNarrow w ws h)))
 
 updates-length : (ws : List WriterInfo) → length (updates_text ws) ≡ suc (length (decimal (length ws))) + length (each_text ws)
 unfolding updates_text
@@ -213,7 +188,7 @@ updates-length ws = length-append (marked space (length ws)) (each_text ws)
 
 -- a tape's station has four pacers
 pub short-updates :
-    (index answer : ℕ) (ws : List WriterInfo) → length ws ≤ 4 → Each IsNarrow ws
+    (index answer : ℕ) (ws : List WriterInfo) → length ws ≤ 4 → All IsNarrow ws
     → length (line_text index answer (updates_text ws)) ≤ 168
 short-updates index answer ws h narrow =
     rw (line_length, updates-length)
@@ -221,26 +196,30 @@ short-updates index answer ws h narrow =
       arith,
       digits_most 20 index,
       digits_most 20 answer,
-      digits_few 20 1 (length ws) (omega arith) (omega arith),
+      digits_few 1 (length ws) (omega arith) (omega arith) (omega arith),
       each-length ws narrow,
     ))
 
 -- ---- examples
 
+-- Stays: an example that docs/GUARANTEES.md names.
 pub decimal-zero : decimal 0 ≡ 48 ∷ []
 unfolding decimal_by
 decimal-zero = refl
 
+-- Stays: an example that docs/GUARANTEES.md names.
 pub decimal_ten_million : decimal 10000000 ≡ 49 ∷ 48 ∷ 48 ∷ 48 ∷ 48 ∷ 48 ∷ 48 ∷ 48 ∷ []
 unfolding decimal_by
 decimal_ten_million = refl
 
 -- the largest number of 64 bits has 20 digits
+-- Stays: an example that docs/GUARANTEES.md names.
 pub decimal_largest : length (decimal 18446744073709551615) ≡ 20
 unfolding decimal_by
 decimal_largest = refl
 
 -- document 01's line "4 0 2 1:0:10000000 2:0:28000000"
+-- Stays: an example that docs/GUARANTEES.md names.
 pub line_of-updates :
     line_text 4 0 (updates_text (writer_of 1 P0 one 10000000 0 ∷ writer_of 2 P1 one 28000000 0 ∷ []))
     ≡ 52 ∷ 32 ∷ 48 ∷ 32 ∷ 50 ∷ 32 ∷ 49 ∷ 58 ∷ 48 ∷ 58 ∷ 49 ∷ 48 ∷ 48 ∷ 48 ∷ 48 ∷ 48 ∷ 48 ∷ 48 ∷ 32 ∷ 50 ∷ 58 ∷ 48 ∷ 58 ∷ 50 ∷ 56 ∷ 48 ∷ 48 ∷ 48 ∷ 48 ∷ 48 ∷ 48 ∷ 10 ∷ []
@@ -248,6 +227,7 @@ unfolding decimal_by update_text each_text updates_text line_text
 line_of-updates = refl
 
 -- its line "5 0 empty"
+-- Stays: an example that docs/GUARANTEES.md names.
 pub line_of_empty : line_text 5 0 (fields_text Empty) ≡ 53 ∷ 32 ∷ 48 ∷ 32 ∷ 101 ∷ 109 ∷ 112 ∷ 116 ∷ 121 ∷ 10 ∷ []
 unfolding decimal_by fields_text line_text
 line_of_empty = refl

@@ -30,6 +30,7 @@ words_from bytes k = whole_words bytes - k
 abbrev pub little_endian : ℕ → ℕ → ℕ → ℕ → ℕ
 little_endian a b c d = a + 256 * b + 65536 * c + 16777216 * d
 
+-- the number that the four bytes from a place on make
 abbrev pub four_bytes : List ℕ → ℕ → ℕ
 four_bytes bytes at =
     little_endian (get_or bytes at 0) (get_or bytes (at + 1) 0) (get_or bytes (at + 2) 0) (get_or bytes (at + 3) 0)
@@ -47,7 +48,7 @@ value_of word = word % 268435456
 
 -- ---- one item; k is the index of its first word, v that word's value
 
--- "class (0 P0 urgent holds, 1 P1 check-outs, 2 P2 rack readings)"; 5: unknown class, which 3 is
+-- "class (0 P0 urgent holds, 1 P1 check-outs, 2 P2 rack readings)"; 5: unknown class, which 3 is. The item of a class, where there is one
 abbrev pub classed : Result Priority Refusal → (Priority → Item) → Item
 classed (Ok c) item = item c
 classed (Err e) item = Broken
@@ -80,6 +81,7 @@ key_words P2 = 4
 abbrev pub hand_in_words : Priority → ℕ → ℕ
 hand_in_words c n = 1 + key_words c + (n + 3) / 4
 
+-- a hand-in of n bytes of a class, where all its words are there
 abbrev pub hand_in_by : List ℕ → ℕ → ℕ → ℕ → Priority → Item
 hand_in_by bytes k pacer n c = whole bytes k (hand_in_words c n) (HandIn pacer c n)
 
@@ -98,6 +100,7 @@ item_by bytes k kind v =
     (cond (eqb kind 4) Tick
     (cond (eqb kind 5) (hand_in_of bytes k v) (cond (eqb kind 6) (Send (v % 4)) (cond (eqb kind 7) (SetRate v) Broken)))))))
 
+-- the item whose first word is this one
 abbrev pub item_of : List ℕ → ℕ → ℕ → Item
 item_of bytes k word = item_by bytes k (kind_of word) (value_of word)
 
@@ -137,6 +140,7 @@ key_at bytes k P2 =
 abbrev pub body_start : ℕ → Priority → ℕ
 body_start k c = 4 * (k + 1 + key_words c)
 
+-- the n bytes from there on, as far as the tape has them
 abbrev pub body_at : List ℕ → ℕ → Priority → ℕ → List ℕ
 body_at bytes k c n = piece bytes (body_start k c) n
 
@@ -146,6 +150,7 @@ body_at bytes k c n = piece bytes (body_start k c) n
 abbrev pub placed : ℕ → Item → Placed
 placed k item = record { index = k; item = item }
 
+-- the end itself is no item of the list
 unfoldable pub is_end : Item → Bool
 is_end End = true
 is_end Broken = false
@@ -175,10 +180,11 @@ stops (HandIn pacer c n) = false
 stops (Send pacer) = false
 stops (SetRate rate) = false
 
--- the end itself is no item of the list
+-- the list from an item on that stops the tape: that item alone, or nothing where it is the end
 abbrev pub last_of : ℕ → Item → List Placed
 last_of k item = cond (is_end item) [] (placed k item ∷ [])
 
+-- the list from any item on, with those behind it where it does not stop the tape
 abbrev pub listed : ℕ → Item → List Placed → List Placed
 listed k item rest = cond (stops item) (last_of k item) (placed k item ∷ rest)
 
@@ -190,6 +196,7 @@ items_from (suc left) bytes k zero =
     listed k (item_at bytes k) (items_from left bytes (suc k) (takes (item_at bytes k) - 1))
 items_from (suc left) bytes k (suc pass) = items_from left bytes (suc k) pass
 
+-- all items of a tape
 unfoldable pub items_of : List ℕ → List Placed
 items_of bytes = items_from (words_of (length bytes)) bytes 0 0
 
@@ -206,5 +213,6 @@ abbrev pub items_on : List ℕ → Option ℕ → List Placed
 items_on bytes None = []
 items_on bytes (Some k) = items_at bytes k
 
+-- those that the program's iterator has still to give
 abbrev pub items_left : Items → List Placed
 items_left s = items_on s.tape.now s.next

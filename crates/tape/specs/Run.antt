@@ -79,10 +79,6 @@ unfoldable pub fields_by : {T : Type 0} → (T → Fields) → Result T Refusal 
 fields_by f (Ok t) = f t
 fields_by f (Err e) = Nothing
 
--- the number of an answer that gives a flag
-abbrev pub flag_number : Result Bool Refusal → ℕ
-flag_number answer = result_number (λ b. accepted) answer
-
 -- "send `sent` class sequence length, `empty`, or `wait` nanoseconds"
 abbrev pub action_fields : SendAction → Fields
 action_fields (action.Send c slot sequence n forced) = Sent c sequence n
@@ -93,12 +89,12 @@ action_fields (action.RateLimited wait) = Wait wait
 abbrev pub updates_of : Station → List WriterInfo
 updates_of s = writers_of s.controller.allocator.table
 
--- of a tick, by whether the rate changed
+-- what the line of a tick tells, by whether the rate changed
 unfoldable pub tick_told : List WriterInfo → Result Bool Refusal → Told
 tick_told ws (Ok changed) = cond changed (updates ws) (fields Unchanged)
 tick_told ws (Err e) = fields Nothing
 
--- of a rate setting
+-- what that of a rate setting tells
 unfoldable pub rate_told : List WriterInfo → Result Unit Refusal → Told
 rate_told ws (Ok u) = updates ws
 rate_told ws (Err e) = fields Nothing
@@ -120,6 +116,7 @@ saying line p = record { lines = line ∷ []; player = p }
 abbrev pub called : {T : Type 0} → (T → ℕ) → Player → ℕ → Told → Left Station T → Step
 called number p k told x = saying (line_of k (result_number number x.answer) told) (player_of x.state p.clock p.pool)
 
+-- the same of a call that gives nothing, of a TOS byte, of a tick, of a rate setting and of a send attempt
 abbrev pub plain : Player → ℕ → Left Station Unit → Step
 plain p k x = called none_number p k (fields Nothing) x
 
@@ -135,14 +132,14 @@ rated p k x = called none_number p k (rate_told (updates_of x.state) x.answer) x
 abbrev pub sent_by : Player → ℕ → Left Station SendAction → Step
 sent_by p k x = called action_number p k (fields (fields_by action_fields x.answer)) x
 
--- a hand-in of the n bytes that stand behind word k
+-- the hand-in that begins at word k, of n bytes
 abbrev pub handed_by : List ℕ → Player → ℕ → ℕ → Priority → ℕ → Step
 handed_by bytes p k i c n =
     called fate_number
     (player_of p.station p.clock (pool_handed p.station (length p.pool) p.clock i c (key_at bytes k c) (body_at bytes k c n) n p.pool))
     k (fields Nothing) (handed_station p.station (length p.pool) p.clock i c (key_at bytes k c) n)
 
--- the item whose first word is word k
+-- any item; its first word is word k
 unfoldable pub played : List ℕ → Player → ℕ → Item → Step
 played bytes p k End = silent p
 played bytes p k Broken = saying (line_of k (number_of KindUnknown) (fields Nothing)) p
@@ -169,7 +166,7 @@ unfoldable pub text_of : List Line → List ℕ
 text_of [] = []
 text_of (l ∷ ls) = line_text l.index l.answer (told_text l.told) ++ text_of ls
 
--- a player and the lines after a step: as it leaves him, and its lines behind those that stood there
+-- a player and the lines after a step: the player as it leaves it, and its lines behind those that stood there
 abbrev pub Leaves : Step → Player → Lines → Lines → Type 0
 Leaves x p before after = (p ≡ x.player) × (after ≡ added before (text_of x.lines))
 
@@ -185,7 +182,7 @@ room_for bytes = 24 + 192 * words_of bytes
 unfoldable pub ran_tape : List ℕ → ℕ → Result ℕ Refusal
 ran_tape bytes room = cond (ltb room (room_for (length bytes))) (Err BufferTooShort) (Ok (length (tape_text bytes)))
 
--- what it leaves of a lent buffer: bytes past the lines keep their old values
+-- a lent buffer after the run: bytes past the lines keep their old values
 unfoldable pub lines_left : List ℕ → List ℕ → List ℕ
 lines_left bytes ls =
     cond (ltb (length ls) (room_for (length bytes))) ls (tape_text bytes ++ drop (length (tape_text bytes)) ls)

@@ -39,6 +39,7 @@ colon = 58
 abbrev pub line_end : ℕ
 line_end = 10
 
+-- the byte of a digit
 abbrev pub glyph : ℕ → ℕ
 glyph digit = 48 + digit
 

@@ -82,7 +82,11 @@ impl Iterator for Items<'_> {
     #[tactic(auto, using(crate::proofs::Items::item_steps))]
     fn next(&mut self) -> Option<Placed> {
         let index = self.next?;
-        let item = item_at(self.tape, index);
+        let words = Words {
+            tape: self.tape,
+            first: index,
+        };
+        let item = words.item();
         self.next = None;
         match item {
             Item::End => return None,
@@ -100,35 +104,6 @@ pub fn words_of(bytes: usize) -> usize
     bytes.div_ceil(WORD)
 }
 
-// How many whole words there are from word k on.
-fn words_from(tape: &[u8], k: usize) -> usize
-    ensures { result ≡ words_from tape.now k }
-{
-    (tape.len() / WORD).saturating_sub(k)
-}
-
-// The word so many past word k; 0 where it is not whole.
-fn word_at(tape: &[u8], k: usize, past: u8) -> u32
-    ensures { result ≡ word_at tape.now (k + past) }
-{
-    if words_from(tape, k) <= usize::from(past) {
-        return 0;
-    }
-    let at = WORD * (k + usize::from(past));
-    u32::from_le_bytes([tape[at], tape[at + 1], tape[at + 2], tape[at + 3]])
-}
-
-// An item of m words from word k on, broken where it is cut short.
-fn whole(tape: &[u8], k: usize, m: usize, item: Item) -> Item
-    ensures { result ≡ whole tape.now k m item }
-{
-    if m <= words_from(tape, k) {
-        item
-    } else {
-        Item::Broken
-    }
-}
-
 fn register_of(value: u32) -> Item
     ensures { result ≡ register_of value }
 {
@@ -141,28 +116,8 @@ fn register_of(value: u32) -> Item
     }
 }
 
-fn rtt_of(tape: &[u8], k: usize, value: u32) -> Item
-    ensures { result ≡ rtt_of tape.now k value }
-{
-    let bits = word_at(tape, k, 1);
-    let rtt = Item::Rtt {
-        peer: value / 256,
-        bits,
-    };
-    whole(tape, k, 2, rtt)
-}
-
-fn signal_of(tape: &[u8], k: usize, value: u32) -> Item
-    ensures { result ≡ signal_of tape.now k value }
-{
-    match value % 4 {
-        0 => Item::Eagain,
-        1 => Item::Tos((value / 256 % 256) as u8),
-        2 => Item::Nacks(value / 256),
-        _ => rtt_of(tape, k, value),
-    }
-}
-
+// The words of a key.
+// Stays: [4] 0 and 4 do not number the classes: they are lengths in words, which the format gives.
 fn key_words(class: Priority) -> usize
     ensures value { result ≡ key_words class }
     ensures upper_bound { result ≤ 4 }
@@ -179,49 +134,6 @@ fn hand_in_words(class: Priority, length: u16) -> usize
     ensures upper_bound { result ≤ 16389 }
 {
     1 + key_words(class) + words_of(usize::from(length))
-}
-
-fn hand_in_of(tape: &[u8], k: usize, value: u32) -> Item
-    ensures { result ≡ hand_in_of tape.now k value }
-{
-    let length = (value % 2048) as u16;
-    match Priority::try_from((value / 2048 % 4) as u8) {
-        Ok(class) => {
-            let hand_in = Item::HandIn {
-                pacer: (value / 8192 % 4) as u8,
-                class,
-                length,
-            };
-            whole(tape, k, hand_in_words(class, length), hand_in)
-        }
-        Err(_) => Item::Broken,
-    }
-}
-
-// The item whose first word this is, by its kind.
-fn item_of(tape: &[u8], k: usize, word: u32) -> Item
-    ensures { result ≡ item_of tape.now k word }
-{
-    let value = word % KIND;
-    match word / KIND {
-        0 => Item::End,
-        1 => Item::Advance(value),
-        2 => register_of(value),
-        3 => signal_of(tape, k, value),
-        4 => Item::Tick,
-        5 => hand_in_of(tape, k, value),
-        6 => Item::Send((value % 4) as u8),
-        7 => Item::SetRate(value),
-        _ => Item::Broken,
-    }
-}
-
-// The item whose first word is word k.
-fn item_at(tape: &[u8], k: usize) -> Item
-    ensures { result ≡ item_at tape.now k }
-{
-    let item = item_of(tape, k, word_at(tape, k, 0));
-    whole(tape, k, 1, item)
 }
 
 // The words that belong to an item.
@@ -242,26 +154,133 @@ fn hash_of(low: u32, high: u32) -> u64
     u64::from(low) + 4294967296 * u64::from(high)
 }
 
-// The key of the hand-in whose first word is word k; P0 and P1 have none.
-pub fn key_at(tape: &[u8], k: usize, class: Priority) -> InstanceKey
-    ensures { result ≡ key_at tape.now k class }
-{
-    match class {
-        Priority::P0 | Priority::P1 => InstanceKey::new(0, 0),
-        Priority::P2 => InstanceKey::new(
-            hash_of(word_at(tape, k, 1), word_at(tape, k, 2)),
-            hash_of(word_at(tape, k, 3), word_at(tape, k, 4)),
-        ),
-    }
+// The words of a tape from an item's first on.
+#[derive(Clone, Copy)]
+pub struct Words<'a> {
+    pub tape: &'a [u8],
+    pub first: usize,
 }
 
-// The bytes of the hand-in whose first word is word k, as far as the tape has them.
-pub fn body_at(tape: &[u8], k: usize, class: Priority, length: u16) -> &[u8]
-    ensures { result.now ≡ body_at tape.now k class length }
-{
-    let ahead = 1 + key_words(class);
-    if words_from(tape, k) < ahead {
-        return pool::shown(tape, 0, 0);
+impl<'a> Words<'a> {
+    // How many there are; a last one that is cut short does not count.
+    fn count(&self) -> usize
+        ensures { result ≡ words_from self.now.tape.now self.now.first }
+    {
+        (self.tape.len() / WORD).saturating_sub(self.first)
     }
-    pool::shown(tape, WORD * (k + ahead), usize::from(length))
+
+    // The word so many past the first; 0 where it is not whole.
+    fn word(&self, past: u8) -> u32
+        ensures { result ≡ word_at self.now.tape.now (self.now.first + past) }
+    {
+        if self.count() <= usize::from(past) {
+            return 0;
+        }
+        let tape = self.tape;
+        let at = WORD * (self.first + usize::from(past));
+        u32::from_le_bytes([tape[at], tape[at + 1], tape[at + 2], tape[at + 3]])
+    }
+
+    // An item of so many words, broken where it is cut short.
+    fn whole(&self, words: usize, item: Item) -> Item
+        ensures { result ≡ whole self.now.tape.now self.now.first words item }
+    {
+        if words <= self.count() {
+            item
+        } else {
+            Item::Broken
+        }
+    }
+
+    fn rtt(&self, value: u32) -> Item
+        ensures { result ≡ rtt_of self.now.tape.now self.now.first value }
+    {
+        let rtt = Item::Rtt {
+            peer: value / 256,
+            bits: self.word(1),
+        };
+        self.whole(2, rtt)
+    }
+
+    // A signal, by its kind.
+    // Stays: [1] here the format's number becomes an `Item`; an enum of signals in between would list the same four cases once more.
+    fn signal(&self, value: u32) -> Item
+        ensures { result ≡ signal_of self.now.tape.now self.now.first value }
+    {
+        match value % 4 {
+            0 => Item::Eagain,
+            1 => Item::Tos((value / 256 % 256) as u8),
+            2 => Item::Nacks(value / 256),
+            _ => self.rtt(value),
+        }
+    }
+
+    fn hand_in(&self, value: u32) -> Item
+        ensures { result ≡ hand_in_of self.now.tape.now self.now.first value }
+    {
+        let length = (value % 2048) as u16;
+        match Priority::try_from((value / 2048 % 4) as u8) {
+            Ok(class) => {
+                let hand_in = Item::HandIn {
+                    pacer: (value / 8192 % 4) as u8,
+                    class,
+                    length,
+                };
+                self.whole(hand_in_words(class, length), hand_in)
+            }
+            Err(_) => Item::Broken,
+        }
+    }
+
+    // The item whose first word this is, by its kind.
+    // Stays: [1] here the format's number becomes an `Item`; an enum of kinds in between would list the same eight cases once more.
+    fn item_of(&self, word: u32) -> Item
+        ensures { result ≡ item_of self.now.tape.now self.now.first word }
+    {
+        let value = word % KIND;
+        match word / KIND {
+            0 => Item::End,
+            1 => Item::Advance(value),
+            2 => register_of(value),
+            3 => self.signal(value),
+            4 => Item::Tick,
+            5 => self.hand_in(value),
+            6 => Item::Send((value % 4) as u8),
+            7 => Item::SetRate(value),
+            _ => Item::Broken,
+        }
+    }
+
+    // The item that begins here.
+    #[tactic(auto, using(crate::proofs::Items::first_word), unfolding(crate::specs::Item::item_at))]
+    fn item(&self) -> Item
+        ensures { result ≡ item_at self.now.tape.now self.now.first }
+    {
+        let item = self.item_of(self.word(0));
+        self.whole(1, item)
+    }
+
+    // The key of the hand-in that begins here; P0 and P1 have none.
+    pub fn key(&self, class: Priority) -> InstanceKey
+        ensures { result ≡ key_at self.now.tape.now self.now.first class }
+    {
+        match class {
+            Priority::P0 | Priority::P1 => InstanceKey::new(0, 0),
+            Priority::P2 => InstanceKey::new(
+                hash_of(self.word(1), self.word(2)),
+                hash_of(self.word(3), self.word(4)),
+            ),
+        }
+    }
+
+    // The bytes of the hand-in that begins here, as far as the tape has them.
+    pub fn body(&self, class: Priority, length: u16) -> &'a [u8]
+        ensures { result.now ≡ body_at self.now.tape.now self.now.first class length }
+    {
+        let ahead = 1 + key_words(class);
+        if self.count() < ahead {
+            return pool::shown(self.tape, 0, 0);
+        }
+        pool::shown(self.tape, WORD * (self.first + ahead), usize::from(length))
+    }
 }

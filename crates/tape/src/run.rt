@@ -8,7 +8,7 @@ ghost use Rattle.tape.specs.Run.{tape_settings, new_player, advanced, action_fie
 ghost use Rattle.tape.specs.Text.{added, line_text, updates_text};
 
 use crate::item;
-use crate::item::{Item, Items, Placed};
+use crate::item::{Item, Items, Placed, Words};
 use crate::text::{Fields, Lines};
 use config::answer::Numbered;
 use config::config::{CongestionConfig, EcnMode, Priority};
@@ -32,6 +32,7 @@ struct Player<'a> {
 }
 
 // The defaults, with queue limits 2, 4 and 2 and ECN opportunistic.
+// Stays: [4] these are a tape's settings, which differ from the defaults, and `CongestionConfig` can have one `Default`.
 fn settings() -> CongestionConfig
     ensures { result ≡ tape_settings }
 {
@@ -40,7 +41,7 @@ fn settings() -> CongestionConfig
         max_queue_p1: 4,
         max_queue_p2: 2,
         ecn_mode: EcnMode::Opportunistic,
-        ..CongestionConfig::new()
+        ..CongestionConfig::default()
     }
 }
 
@@ -88,6 +89,7 @@ fn send_from(
 
 impl Player<'_> {
     // Every item of a tape, in turn.
+    // Stays: [5] each of these clauses names another text; that it stands behind the lines before is what `added` says.
     #[tactic(auto, using(crate::proofs::Runs::told_steps))]
     fn play_all(&mut self, tape: &[u8], lines: &mut Lines)
         ensures { lines.new ≡ added lines.old (text_of (lines_of tape.now (seen self.old) (items_of tape.now))) }
@@ -98,7 +100,7 @@ impl Player<'_> {
     }
 
     // One item of a tape, and its line.
-    #[tactic(auto, using(crate::proofs::Texts::text_steps), unfolding(crate::specs::Run::played, crate::specs::Run::text_of))]
+    #[tactic(auto, using(crate::proofs::Runs::play_steps), unfolding(crate::specs::Run::played, crate::specs::Run::text_of))]
     fn play(&mut self, tape: &[u8], placed: Placed, lines: &mut Lines)
         requires { Stands tape.now placed }
         ensures { Leaves (played tape.now (seen self.old) placed.index placed.item) (seen self.new) lines.old lines.new }
@@ -131,7 +133,10 @@ impl Player<'_> {
                 pacer,
                 class,
                 length: bytes,
-            } => self.hand_in(tape, k, pacer, class, bytes, lines),
+            } => {
+                let words = Words { tape, first: k };
+                self.hand_in(&words, pacer, class, bytes, lines)
+            }
             Item::Send(pacer) => self.send(pacer, k, lines),
             Item::SetRate(rate_bps) => self.set_rate(rate_bps, k, lines),
         }
@@ -152,7 +157,7 @@ impl Player<'_> {
         ensures { lines.new ≡ added lines.old (line_text k 0 (updates_text (updates_of self.now.station))) }
     {
         let station = &self.station;
-        lines.put_updates(k, station.controller.table().writers());
+        lines.put_updates(k, station.controller().table().writers());
     }
 
     // A tick, and every writer's budget where it changed the rate.
@@ -167,24 +172,16 @@ impl Player<'_> {
     }
 
     // A hand-in of the bytes that stand behind its words.
-    fn hand_in(
-        &mut self,
-        tape: &[u8],
-        k: usize,
-        pacer: u8,
-        class: Priority,
-        bytes: u16,
-        lines: &mut Lines,
-    )
-        requires { length (body_at tape.now k class bytes) ≡ bytes }
-        ensures { Leaves (handed_by tape.now (seen self.old) k pacer class bytes) (seen self.new) lines.old lines.new }
+    fn hand_in(&mut self, words: &Words, pacer: u8, class: Priority, bytes: u16, lines: &mut Lines)
+        requires { length (body_at words.now.tape.now words.now.first class bytes) ≡ bytes }
+        ensures { Leaves (handed_by words.now.tape.now (seen self.old) words.now.first pacer class bytes) (seen self.new) lines.old lines.new }
     {
-        let key = item::key_at(tape, k, class);
-        let record = item::body_at(tape, k, class, bytes);
+        let key = words.key(class);
+        let record = words.body(class, bytes);
         let answer = self
             .station
             .hand_in(self.pool, self.clock, pacer, class, key, record);
-        lines.put_line(k, answer.number(), Fields::Nothing);
+        lines.put_line(words.first, answer.number(), Fields::Nothing);
     }
 
     // A send attempt, and what it comes to.
@@ -218,7 +215,7 @@ fn play_tape(tape: &[u8], lines: &mut Lines) -> Result<(), Refusal>
         return Ok(());
     }
     let mut pool = [0u8; POOL_BYTES];
-    // Stays a match: `?` would move the station twice more, and the set-up of a short tape took 1.5 times as long.
+    // Stays: [1] a match: `?` would move the station twice more, and the set-up of a short tape took 1.5 times as long.
     match Station::new(settings(), 0) {
         Ok(station) => {
             let mut player = Player {

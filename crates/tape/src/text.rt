@@ -6,15 +6,13 @@ ghost use Rattle.tape.specs.Text.{lines_in, added, decimal, marked, header, fiel
 
 use config::config::Priority;
 use control::budget_allocator::WriterInfo;
+use itoa::Buffer;
 
 const SPACE: u8 = 32;
 
 const COLON: u8 = 58;
 
 const LINE_END: u8 = 10;
-
-// The glyph of digit 0.
-const ZERO: u8 = 48;
 
 // What a line tells after the answer number.
 #[derive(Clone, Copy, Debug, PartialEq, Eq)]
@@ -54,6 +52,7 @@ impl<'a> Lines<'a> {
     }
 
     // A byte more; where there is no room nothing is written.
+    // Stays: [5] each of these clauses names another text; that it stands behind the lines before is what `added` says.
     #[tactic(auto, using(crate::proofs::Texts::put_steps))]
     fn put_byte(&mut self, byte: u8)
         ensures { self.new ≡ added self.old (byte ∷ []) }
@@ -73,15 +72,13 @@ impl<'a> Lines<'a> {
         }
     }
 
-    // A number in decimal, the digits before its last one first.
-    #[tactic(auto, using(crate::proofs::Texts::digit_steps))]
+    // A number in decimal.
+    #[tactic(auto, using(crate::proofs::Texts::decimal_is))]
     fn put_number(&mut self, n: u64)
         ensures { self.new ≡ added self.old (decimal n) }
     {
-        if n >= 10 {
-            self.put_number(n / 10);
-        }
-        self.put_byte(ZERO + (n % 10) as u8);
+        let mut digits = Buffer::new();
+        self.put_text(digits.format(n).as_bytes());
     }
 
     // A number with a mark before it.
@@ -144,6 +141,7 @@ impl<'a> Lines<'a> {
     }
 
     // The line of a word: its index, its answer and its fields.
+    // Stays: [1] what is printed is the number, which a refusal, a fate and an accepted call each give (`Numbered`).
     pub fn put_line(&mut self, index: usize, answer: u8, fields: Fields)
         ensures { self.new ≡ added self.old (line_text index answer (fields_text fields)) }
     {

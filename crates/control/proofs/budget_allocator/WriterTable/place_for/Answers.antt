@@ -6,6 +6,7 @@ use Rattle.signals.proofs.Searches.{position-first}
 use Rattle.control.specs.BudgetAllocator.{no_writer, comes_before, place_for, taken_of, writers_of}
 use Rattle.control.proofs.budget_allocator.WriterTable.place_for.Goals as goal
 
+-- Stays: the check doesn't join the run of `position` over the slice with `first`, which goes by index (`position-first`).
 pub returns-clause-place : goal.returns-clause-place
 unfolding place_for
 returns-clause-place c =

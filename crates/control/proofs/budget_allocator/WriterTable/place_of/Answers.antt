@@ -7,6 +7,7 @@ use Rattle.control.specs.BudgetAllocator.{no_writer, place_of, taken_of, writers
 use Rattle.control.specs.declared.budget_allocator.WriterInfo.{WriterInfo}
 use Rattle.control.proofs.budget_allocator.WriterTable.place_of.Goals as goal
 
+-- Stays: the check doesn't join the run of `position` over the slice with `first`, which goes by index (`position-first`).
 pub returns : goal.returns
 unfolding place_of
 returns c =

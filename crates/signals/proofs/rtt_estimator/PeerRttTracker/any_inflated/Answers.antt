@@ -7,6 +7,7 @@ use Rattle.signals.specs.declared.rtt_estimator.Peer.{Peer}
 use Rattle.signals.proofs.Searches.{any_first}
 use Rattle.signals.proofs.rtt_estimator.PeerRttTracker.any_inflated.Goals as goal
 
+-- Stays: the check doesn't join the run of `any` over the slice with `first`, which goes by index (`any_first`).
 pub returns : goal.returns
 unfolding any_inflated
 returns c =

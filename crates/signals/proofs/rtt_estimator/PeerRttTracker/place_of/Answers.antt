@@ -7,6 +7,7 @@ use Rattle.signals.specs.declared.rtt_estimator.Peer.{Peer}
 use Rattle.signals.proofs.Searches.{position-first}
 use Rattle.signals.proofs.rtt_estimator.PeerRttTracker.place_of.Goals as goal
 
+-- Stays: the check doesn't join the run of `position` over the slice with `first`, which goes by index (`position-first`).
 pub returns : goal.returns
 unfolding place_of
 returns c =

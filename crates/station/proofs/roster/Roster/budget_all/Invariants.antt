@@ -2,10 +2,8 @@ use Rattle.std.proofs.Common.{◌≡◌, ◌++◌, take, drop, map}
 use Rattle.station.specs.Station.{budgeted}
 use Rattle.station.proofs.roster.Roster.budget_all.Given as goal
 
--- the writers before place k have their budgets, the others stand as they were
-abbrev pub invariant-loop-k : goal.invariant-loop-k
-invariant-loop-k g l =
-    record {
-      writers : l.self-inside.writers ≡ map (budgeted l.config l.time l.table) (take l.k l.fn.self.writers) ++ drop l.k l.fn.self.writers;
-      count : l.self-inside.count ≡ l.fn.self.count;
-    }
+-- the writers before the place have their budgets, the others stand as they were
+-- Stays: what a loop keeps is the one thing that the check asks for.
+abbrev pub invariant-loop-writer : goal.invariant-loop-writer
+invariant-loop-writer g l =
+    l.writers ≡ map (budgeted l.config l.time l.table) (take l.writer-index l.initial.writers) ++ drop l.writer-index l.initial.writers
