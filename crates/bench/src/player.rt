@@ -1,9 +1,11 @@
 // A list of calls, packed into words, on what plays them; and the checksum of what they answer.
 use crate::call::{self, Call, Kind, Record, mix};
-use config::alone::Left;
+use config::alone::{Alone, Left};
 use config::answer::Numbered;
 use config::config::{CongestionConfig, Priority};
 use pacing::send_action::{SendAction, sent_bytes};
+use pacing::writer_pacer_alone;
+use pacing::writer_pacer_alone::ConfiguredPacer;
 use queue::entry::InstanceKey;
 use queue::fate::Fate;
 use queue::pool;
@@ -26,6 +28,35 @@ pub trait Player: Sized {
 
     // What pacer i sends next.
     fn send(self, time: u64, pool: &[u8], i: u8) -> Left<Self, SendAction>;
+}
+
+// One pacer through its public calls, which take it by value and give it back.
+impl Player for Alone<ConfiguredPacer> {
+    fn pacers() -> u8 {
+        1
+    }
+
+    // A hand-in by the public call of its class.
+    fn hand_in(
+        self,
+        time: u64,
+        pool: &mut [u8],
+        _i: u8,
+        class: Priority,
+        key: InstanceKey,
+        sample: &[u8],
+    ) -> Left<Self, Fate> {
+        match class {
+            Priority::P0 | Priority::P1 => {
+                writer_pacer_alone::enqueue(self, time, pool, class, sample)
+            }
+            Priority::P2 => writer_pacer_alone::enqueue_p2_keyed(self, time, pool, key, sample),
+        }
+    }
+
+    fn send(self, time: u64, pool: &[u8], _i: u8) -> Left<Self, SendAction> {
+        writer_pacer_alone::try_send(self, time, pool)
+    }
 }
 
 // The checksum of a list of calls.

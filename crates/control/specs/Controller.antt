@@ -184,8 +184,12 @@ ticked_with x c t =
     (controller_of t.0 x.tracker (reallocated x.allocator c.allocation t.0.rate_controller.current_rate), true)
     (controller_of t.0 x.tracker x.allocator, false)
 
+-- a tick that is told whether a peer is inflated
+abbrev pub controller_ticked_by : CongestionController → ControllerConfig → ℕ → Bool → ControllerTicked
+controller_ticked_by x c time inflated = ticked_with x c (core_ticked x.core c time inflated)
+
 unfoldable pub controller_ticked : CongestionController → ControllerConfig → ℕ → ControllerTicked
-controller_ticked x c time = ticked_with x c (core_ticked x.core c time (any_inflated x.tracker))
+controller_ticked x c time = controller_ticked_by x c time (any_inflated x.tracker)
 
 -- "`set_rate` clamps the controller's rate but allots by the raw one"
 unfoldable pub controller_set : CongestionController → ControllerConfig → ℕ → ℕ → CongestionController

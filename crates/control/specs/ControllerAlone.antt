@@ -1,5 +1,5 @@
 -- A controller used alone: the reasons that may apply to each call, and what it answers and leaves. Definitions only.
-use Rattle.std.specs.Prelude.{ℕ, Bool, true, List, ◌∷◌, Result, Float}
+use Rattle.std.specs.Prelude.{ℕ, Bool, true, false, List, ◌∷◌, Result, Float}
 use Rattle.config.specs.Alone.{begun, answered, made_or}
 use Rattle.config.specs.Config.{making_checks}
 use Rattle.config.specs.Ledger.{counted, moved, counted_checks, timed_checks, rate_checks}
@@ -10,13 +10,58 @@ use Rattle.config.specs.declared.config.CongestionConfig.{CongestionConfig}
 use Rattle.config.specs.declared.config.Priority.{Priority}
 use Rattle.config.specs.declared.refusal.Refusal.{Refusal}
 use Rattle.config.specs.declared.refusal.Refusal.TheVariants.{TableFull}
+use Rattle.numeric.specs.Float.{zero32}
 use Rattle.signals.specs.RttEstimatorAlone.{sample_checks}
 use Rattle.control.specs.BudgetAllocator.{full_for}
 use Rattle.control.specs.Controller.{controller_config_of, on_eagain, on_nacks, on_ecn_ce, new_controller, with_core, tos_in, registered_in, sampled, controller_ticked, controller_set, full_for_peer}
+use Rattle.control.specs.declared.budget_allocator.AllocationConfig.{AllocationConfig}
 use Rattle.control.specs.declared.controller.CongestionController.{CongestionController}
 use Rattle.control.specs.declared.controller.ControllerConfig.{ControllerConfig}
 use Rattle.control.specs.declared.controller.ControllerCore.{ControllerCore}
 use Rattle.control.specs.declared.controller_alone.ConfiguredCongestion.{ConfiguredCongestion}
+use Rattle.control.specs.declared.rate_controller.RateParams.{RateParams}
+use Rattle.control.specs.declared.scorer.ScorerConfig.{ScorerConfig}
+
+-- settings that were turned down
+abbrev pub no_scorer_config : ScorerConfig
+no_scorer_config =
+    record {
+      tick_interval = 0;
+      decay = zero32;
+      decrease_threshold = zero32;
+      increase_threshold = zero32;
+      hysteresis = zero32;
+      cooldown = 0;
+      stable_window = 0;
+      eagain_impulse = zero32;
+      rtt_impulse = zero32;
+      nack_impulse = zero32;
+      nack_threshold = 0;
+      eagain_is_hard = false;
+    }
+
+abbrev pub no_params : RateParams
+no_params =
+    record {
+      min_rate = 0;
+      max_rate = 0;
+      ai_step = 0;
+      md_hard = zero32;
+      md_soft = zero32;
+    }
+
+abbrev pub no_allocation_config : AllocationConfig
+no_allocation_config = record { p0_min_share = zero32; p0_min_bps = 0 }
+
+abbrev pub no_config : ControllerConfig
+no_config =
+    record {
+      enabled = false;
+      ecn = false;
+      scorer = no_scorer_config;
+      rate = no_params;
+      allocation = no_allocation_config;
+    }
 
 abbrev pub configured : ControllerConfig → CongestionController → ConfiguredCongestion
 configured c x = record { config = c; controller = x }

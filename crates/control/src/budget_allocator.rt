@@ -150,25 +150,29 @@ impl WriterTable {
     }
 
     // A writer takes a row; that row and those after it move on by one, up to the first free one.
-    #[tactic(auto, using(crate::proofs::Rows::row_put, std::proofs::lemmas::Grind::common_steps))]
+    #[tactic(auto, using(crate::proofs::Rows::carry_on, std::proofs::lemmas::Grind::common_steps))]
     fn put_row(&mut self, place: usize, writer: WriterInfo)
         requires within { place ≤ taken_of self.old.count }
         requires room { taken_of self.old.count < 64 }
         ensures { self.new ≡ with_row self.old place writer }
     {
         let n = taken(self.count);
-        self.rows.copy_within(place..n, place + 1);
-        self.rows[place] = writer;
+        let mut carried = writer;
+        for row in &mut self.rows[place..=n] {
+            carried = std::mem::replace(row, carried);
+        }
     }
 
     // A row is given up; those after it move up by one, and a blank row comes last.
-    #[tactic(auto, using(crate::proofs::Rows::row_dropped, std::proofs::lemmas::Grind::common_steps))]
+    #[tactic(auto, using(crate::proofs::Rows::carry_back, std::proofs::lemmas::Grind::common_steps))]
     fn drop_row(&mut self, place: usize)
         requires { place < 64 }
         ensures { self.new ≡ without_row self.old place }
     {
-        self.rows.copy_within(place + 1.., place);
-        self.rows[MOST_WRITERS - 1] = BLANK;
+        let mut carried = BLANK;
+        for k in (place..MOST_WRITERS).rev() {
+            carried = std::mem::replace(&mut self.rows[k], carried);
+        }
     }
 
     // A new writer takes its row; a full table takes none.

@@ -1,8 +1,9 @@
 // The congestion controller: signals reach the scorer, whose ticks steer the rate, which is shared out among the writers.
 #![tactic(auto, unfolding(crate::specs::Controller::new_core, crate::specs::Controller::on_eagain, crate::specs::Controller::on_nacks, crate::specs::Controller::marked, crate::specs::Controller::on_ecn_tos, crate::specs::Controller::on_ecn_ce, crate::specs::Controller::on_inflated, crate::specs::Controller::on_window, crate::specs::Controller::steered, crate::specs::Controller::core_ticked, crate::specs::Controller::core_set, crate::specs::Controller::new_controller, crate::specs::Controller::registered_in, crate::specs::Controller::sampled, crate::specs::Controller::controller_ticked, crate::specs::Controller::controller_set, crate::specs::Controller::full_for_peer, crate::specs::Controller::tos_in))]
 
-ghost use Rattle.std.specs.Prelude.{◌≡◌};
-ghost use Rattle.control.specs.Controller.{controller_config_of, new_core, on_eagain, on_nacks, marked, on_ecn_tos, on_ecn_ce, on_inflated, on_window, steered, core_ticked, core_set, controller_of, new_controller, registered_in, sampled, controller_ticked, controller_set, full_for_peer, with_core, tos_in};
+ghost use Rattle.std.specs.Prelude.{◌≡◌, not};
+ghost use Rattle.control.specs.Controller.{controller_config_of, new_core, on_eagain, on_nacks, marked, on_ecn_tos, on_ecn_ce, on_inflated, on_window, steered, core_ticked, core_set, controller_of, new_controller, registered_in, sampled, controller_ticked, controller_ticked_by, controller_set, full_for_peer, with_core, tos_in};
+ghost use Rattle.control.specs.ControllerAlone.{no_config};
 
 use crate::budget_allocator::{AllocationConfig, BudgetAllocator, WriterTable};
 use crate::metrics::CongestionMetrics;
@@ -39,6 +40,43 @@ impl From<CongestionConfig> for ControllerConfig {
             scorer: ScorerConfig::from(config),
             rate: RateParams::from(config),
             allocation: AllocationConfig::from(config),
+        }
+    }
+}
+
+impl ControllerConfig {
+    // Settings that were turned down: disabled, and every number 0.
+    pub fn zero() -> ControllerConfig
+        ensures { result ≡ no_config }
+    {
+        ControllerConfig {
+            enabled: false,
+            ecn: false,
+            scorer: ScorerConfig {
+                tick_interval: 0,
+                decay: 0.0,
+                decrease_threshold: 0.0,
+                increase_threshold: 0.0,
+                hysteresis: 0.0,
+                cooldown: 0,
+                stable_window: 0,
+                eagain_impulse: 0.0,
+                rtt_impulse: 0.0,
+                nack_impulse: 0.0,
+                nack_threshold: 0,
+                eagain_is_hard: false,
+            },
+            rate: RateParams {
+                min_rate: 0,
+                max_rate: 0,
+                ai_step: 0,
+                md_hard: 0.0,
+                md_soft: 0.0,
+            },
+            allocation: AllocationConfig {
+                p0_min_share: 0.0,
+                p0_min_bps: 0,
+            },
         }
     }
 }
@@ -309,8 +347,24 @@ impl CongestionController {
     pub fn on_rtt_sample(&mut self, config: ControllerConfig, time: u64, peer_id: u32, rtt_ms: f32)
         ensures { self.new ≡ sampled self.old config time peer_id rtt_ms }
     {
+        self.take_sample(config, time, peer_id, rtt_ms);
+    }
+
+    // The same, and whether there was room for the peer; a disabled controller looks at no peer, and has room.
+    pub fn take_sample(
+        &mut self,
+        config: ControllerConfig,
+        time: u64,
+        peer_id: u32,
+        rtt_ms: f32,
+    ) -> bool
+        ensures state { self.new ≡ sampled self.old config time peer_id rtt_ms }
+        ensures room { result ≡ not (full_for_peer self.old config peer_id) }
+    {
         if config.enabled {
-            self.tracker.update(time, peer_id, rtt_ms);
+            self.tracker.update(time, peer_id, rtt_ms)
+        } else {
+            true
         }
     }
 
@@ -318,7 +372,15 @@ impl CongestionController {
     pub fn tick(&mut self, config: ControllerConfig, time: u64) -> bool
         ensures { (self.new, result) ≡ controller_ticked self.old config time }
     {
-        let changed = self.core.tick(config, time, self.tracker.any_inflated());
+        let inflated = self.tracker.any_inflated();
+        self.tick_told(config, time, inflated)
+    }
+
+    // The same for a caller that knows whether a peer's round-trip time is inflated.
+    pub fn tick_told(&mut self, config: ControllerConfig, time: u64, inflated: bool) -> bool
+        ensures { (self.new, result) ≡ controller_ticked_by self.old config time inflated }
+    {
+        let changed = self.core.tick(config, time, inflated);
         if changed {
             self.allocator
                 .reallocate(config.allocation, self.core.rate());

@@ -29,7 +29,7 @@ use Rattle.pacing.specs.WriterPacer.{action_number, hand_in_stored}
 use Rattle.pacing.specs.declared.send_action.SendAction.{SendAction}
 use Rattle.pacing.specs.declared.send_action.SendAction.TheVariants.{Send, Empty, RateLimited}
 use Rattle.signals.specs.RttEstimator.{any_inflated}
-use Rattle.station.specs.Station.{Station, turned_down, left_by, answer_with, register_checks, register_leaves, registered_station, steered, eagain_station, nacks_station, tos_station, rtt_checks, rtt_station, allotted, tick_leaves, ticked_station, rated_station, limits_in, slots_needed, hand_in_checks, enqueued_in, hand_in_leaves, handed_station, pool_by, pool_handed, send_checks, attempt_in, send_leaves, sent_station}
+use Rattle.station.specs.Station.{Station, turned_down, left_by, answer_with, register_checks, register_leaves, registered_station, steered, eagain_station, nacks_station, tos_station, rtt_checks, rtt_station, allotted, tick_leaves, ticked_by, ticked_station, rated_station, limits_in, slots_needed, hand_in_checks, enqueued_in, hand_in_leaves, handed_station, pool_by, pool_handed, send_checks, attempt_in, send_leaves, sent_station}
 use Rattle.guarantees.specs.Book.{Book, Sent, none, sent_in, noted}
 use Rattle.guarantees.specs.Calls.{Lent, owed, Steering, eagain, tos, nacks, rtt, tick, set_rate, Call, register, control, hand_in, send, controlled, Reply, nothing, signal, unchanged, updates, action, Outcome, outcome_of, plain, signals, rows_of, allots, rates, hands, attempts, lent_length, lent_in, outcome, written}
 use Rattle.guarantees.specs.Theorem.{is_updates, begins, paid_by}
@@ -180,7 +180,7 @@ module _ (s : Station) (n : ℕ) (P : Call → Outcome → Type 0) (cases : Case
       by_test (λ (c : CongestionController). c.allocator ≡ s.controller.allocator) s.config.controller.enabled (λ e. refl) (λ e. refl)
 
   by-control : (time : ℕ) (steering : Steering) → P (control time steering) (controlled s time steering)
-  unfolding controlled written eagain_station nacks_station tos_station rtt_station ticked_station rated_station controller_ticked controller_set
+  unfolding controlled written eagain_station nacks_station tos_station rtt_station ticked_by ticked_station rated_station controller_ticked controller_set
   by-control time eagain =
       by-checks (control time eagain) plain (timed_checks s.ledger time) _ (λ e. refl) (λ e q p. refl)
       (λ q h. steers-by time eagain nothing _ refl refl refl (passed time h))

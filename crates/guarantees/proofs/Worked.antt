@@ -20,7 +20,7 @@ use Rattle.pacing.specs.Records.{shaped}
 use Rattle.pacing.specs.TokenBucket.{credit, wait_of, refilled, tried, told}
 use Rattle.pacing.specs.WriterPacer.{enqueue_p1, enqueue_p2, enqueue, gone, paid, waited, limited, attempt, hand_in_noted, handed_in, hand_in_stored, send_noted, sent_from, sent_if, rate_set}
 use Rattle.signals.specs.RttEstimator.{any_inflated}
-use Rattle.station.specs.Station.{is_here, joined, with_pacer, left_by, made_by, made_station, register_leaves, registered_station, eagain_station, budgeted, budgeted_all, ticked_station, handed_station, pool_by, pool_handed, sent_station}
+use Rattle.station.specs.Station.{is_here, joined, with_pacer, left_by, made_by, made_station, register_leaves, registered_station, eagain_station, budgeted, budgeted_all, ticked_by, ticked_station, handed_station, pool_by, pool_handed, sent_station}
 use Rattle.guarantees.specs.Book.{joining, replacing, keyed_in, handed_to, taken_from, with_queue, handed_by, with_page, page_after_send, noted}
 use Rattle.guarantees.specs.Calls.{controlled, outcome, in_place, written, after, answers}
 use Rattle.guarantees.specs.Theorem.{keep, keeps}
@@ -33,5 +33,5 @@ worked = (refl, refl, refl, refl, refl, refl)
 
 -- Stays: docs/GUARANTEES.md names it.
 pub tape_worked : IsTapeWorked
-unfolding scaled of_int of_bits add mul div le to_unsigned is_nan not_in_open_closed not_in_open not_in_closed failed_check rates_beyond floats_beyond limit_beyond queues_beyond verdict_of first is_short rate_set paid limited attempt send_noted sent_from sent_if any_inflated comes_before place_of place_for lacking with_row allocator.entered is_known without weighed weights_from share_of reserve_of split_of urgent_part left_from shares_of budget_for with_budget allotted_table registered reallocated new_core controller.on_eagain on_inflated on_window steered core_ticked new_controller registered_in controller_ticked decreased with_params changed_to applied scorer.on_eagain added_if impulse_of congested_at evaluated_stable evaluated ticked is_here joined left_by made_by made_station register_leaves registered_station eagain_station budgeted budgeted_all ticked_station sent_station controlled outcome in_place written after answers
+unfolding scaled of_int of_bits add mul div le to_unsigned is_nan not_in_open_closed not_in_open not_in_closed failed_check rates_beyond floats_beyond limit_beyond queues_beyond verdict_of first is_short rate_set paid limited attempt send_noted sent_from sent_if any_inflated comes_before place_of place_for lacking with_row allocator.entered is_known without weighed weights_from share_of reserve_of split_of urgent_part left_from shares_of budget_for with_budget allotted_table registered reallocated new_core controller.on_eagain on_inflated on_window steered core_ticked new_controller registered_in controller_ticked decreased with_params changed_to applied scorer.on_eagain added_if impulse_of congested_at evaluated_stable evaluated ticked is_here joined left_by made_by made_station register_leaves registered_station eagain_station budgeted budgeted_all ticked_by ticked_station sent_station controlled outcome in_place written after answers
 tape_worked = (refl, refl, refl)

@@ -10,8 +10,9 @@ use Rattle.config.specs.declared.config.CongestionConfig.{CongestionConfig}
 use Rattle.config.specs.declared.refusal.Refusal.TheVariants.{SettingsBeyond}
 use Rattle.queue.specs.Pool.{Limits, limit_of, limits_of}
 use Rattle.queue.specs.Waiting.{limit_fits}
+use Rattle.queue.proofs.Queues.{held_fits}
 use Rattle.pacing.specs.TokenBucket as bucket
-use Rattle.pacing.specs.WriterPacer.{Queues, Pacer, pacer_of, new_queues, queues_made, fits, made, made_in, burst_of, no_counts}
+use Rattle.pacing.specs.WriterPacer.{Queues, Pacer, pacer_of, new_queues, queues_made, fits, made, limits_held, made_in, burst_of, no_counts}
 use Rattle.pacing.specs.WriterPacerAlone.{making_checks}
 
 -- a pacer over queues that were made
@@ -54,3 +55,9 @@ pub made_always :
     (c : CongestionConfig) (time rate : ℕ) → verdict_of (making_checks c time rate) ≡ Ok tt
     → made_in 128 512 128 time (limits_of c) rate ≡ Some (made time (limits_of c) rate)
 made_always c time rate e = rw (settings-fit c (none_where_accepted (making_checks c time rate) e SettingsBeyond)) refl
+
+-- limits that are held find room
+pub made_held :
+    (time : ℕ) (m : Limits) (rate : ℕ) → made_in 128 512 128 time (limits_held m) rate ≡ Some (made time (limits_held m) rate)
+made_held time m rate =
+    rw (held_fits 128 m.p0 (omega arith) (omega arith), held_fits 512 m.p1 (omega arith) (omega arith), held_fits 128 m.p2 (omega arith) (omega arith)) refl

@@ -13,7 +13,7 @@ use Rattle.queue.specs.Coalescing.{Coalescing, new_queue, inserted, popped_front
 use Rattle.queue.specs.Entries.{entry_of, no_entry, no_key, no_keyed_entry, keyed_entry}
 use Rattle.queue.specs.Fates.{is_full, refused}
 use Rattle.queue.specs.Pool.{Limits, limits_of, slot_start, stored, piece}
-use Rattle.queue.specs.Waiting.{Waiting, empty, limit_fits, has_room, joined, kept_in, popped, slot_of}
+use Rattle.queue.specs.Waiting.{Waiting, empty, limit_fits, limit_held, has_room, joined, kept_in, popped, slot_of}
 use Rattle.queue.specs.declared.entry.Entry.{Entry}
 use Rattle.queue.specs.declared.entry.InstanceKey.{InstanceKey}
 use Rattle.queue.specs.declared.entry.KeyedEntry.{KeyedEntry}
@@ -30,6 +30,11 @@ use Rattle.pacing.specs.declared.token_bucket.TokenBucket.{TokenBucket}
 use Rattle.pacing.specs.declared.writer_pacer.PacerConfig.{PacerConfig}
 
 -- ---- the parts
+
+-- settings that were turned down
+abbrev pub no_pacer_config : PacerConfig
+no_pacer_config =
+    record { enabled = false; min_rate_bps = 0; max_rate_bps = 0; limits = record { p0 = 0; p1 = 0; p2 = 0 } }
 
 -- what a pacer reads of the settings
 abbrev pub pacer_config_of : CongestionConfig → PacerConfig
@@ -142,6 +147,10 @@ queues_restarted N0 N1 N2 q m = cond (fits N0 N1 N2 m) (new_queues m) q
 
 abbrev pub made_in : ℕ → ℕ → ℕ → ℕ → Limits → ℕ → Option Pacer
 made_in N0 N1 N2 time m rate = cond (fits N0 N1 N2 m) (Some (made time m rate)) None
+
+-- limits that queues of 128, 512 and 128 slots have room for: each is held to 1 and the slots of its class
+abbrev pub limits_held : Limits → Limits
+limits_held m = record { p0 = limit_held 128 m.p0; p1 = limit_held 512 m.p1; p2 = limit_held 128 m.p2 }
 
 -- a pacer made anew in the place of another, where there is room for its limits
 abbrev pub restarted : ℕ → ℕ → ℕ → Pacer → ℕ → Limits → ℕ → Pacer

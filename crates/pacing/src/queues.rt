@@ -12,7 +12,7 @@ use std::marker::Model;
 
 // At most N0 urgent, N1 normal and N2 background records wait.
 // Stays: [2] three types, while `PerClass` has three values of one.
-#[derive(Drop)]
+#[derive(Clone, Copy)]
 pub struct Queues<const N0: usize, const N1: usize, const N2: usize> {
     pub(crate) p0: Queue<Entry, N0>,
     pub(crate) p1: Queue<Entry, N1>,
@@ -23,6 +23,8 @@ impl<const N0: usize, const N1: usize, const N2: usize> Model for Queues<N0, N1,
     ghost Value = { Queues };
 
     ghost view = { λ q. record { p0 = q.p0; p1 = q.p1; p2 = q.p2 } };
+
+    ghost inverse = { λ v. record { p0 = v.p0; p1 = v.p1; p2 = v.p2 } };
 }
 
 impl<const N0: usize, const N1: usize, const N2: usize> Queues<N0, N1, N2> {
@@ -40,8 +42,8 @@ impl<const N0: usize, const N1: usize, const N2: usize> Queues<N0, N1, N2> {
         ensures { result ≡ queues_made N0 N1 N2 limits }
     {
         Some(Queues {
-            p0: Queue::new(Entry::BLANK, limits.p0)?,
-            p1: Queue::new(Entry::BLANK, limits.p1)?,
+            p0: Queue::new(limits.p0)?,
+            p1: Queue::new(limits.p1)?,
             p2: CoalescingQueue::new(limits.p2)?,
         })
     }

@@ -1,7 +1,7 @@
 // The writer pacer: three queues in the order of their class, and a token bucket that paces what is not urgent. Of a record it reads the length;
 // `send_action` has its bytes.
 ghost use Rattle.std.specs.Prelude.{◌≡◌, ◌<◌, length, slice_get};
-ghost use Rattle.pacing.specs.WriterPacer.{Pacer, pacer_config_of, pacer_of, burst_of, fits, made_in, restarted, numbered, enqueue, handed_in, waiting_in, entries_in, slot_in, limits_in, gone, attempt_p0, paid, waited, limited, attempt, sent_from, sent_if, rate_set, metrics_in};
+ghost use Rattle.pacing.specs.WriterPacer.{Pacer, no_pacer_config, pacer_config_of, pacer_of, burst_of, fits, made, limits_held, made_in, restarted, numbered, enqueue, handed_in, waiting_in, entries_in, slot_in, limits_in, gone, attempt_p0, paid, waited, limited, attempt, sent_from, sent_if, rate_set, metrics_in};
 ghost use Rattle.queue.specs.Coalescing.{stats_in};
 ghost use Rattle.queue.specs.Entries.{entry_of};
 ghost use Rattle.queue.specs.Waiting.{joined, kept_in};
@@ -41,6 +41,22 @@ impl From<CongestionConfig> for PacerConfig {
 }
 
 impl PacerConfig {
+    // Settings that were turned down: off, and every number 0.
+    pub fn zero() -> PacerConfig
+        ensures { result ≡ no_pacer_config }
+    {
+        PacerConfig {
+            enabled: false,
+            min_rate_bps: 0,
+            max_rate_bps: 0,
+            limits: Limits {
+                p0: 0,
+                p1: 0,
+                p2: 0,
+            },
+        }
+    }
+
     pub fn enabled(self) -> bool
         ensures { result ≡ self.enabled }
     {
@@ -82,7 +98,7 @@ fn join<const N: usize>(queue: &mut Queue<Entry, N>, sequence: u64, length: u64)
 }
 
 // The pacer of one writer: what waits, its own next number, its tokens and its counts.
-#[derive(Drop)]
+#[derive(Clone, Copy)]
 pub struct WriterPacer<const N0: usize, const N1: usize, const N2: usize> {
     queues: Queues<N0, N1, N2>,
     next_sequence: u64,
@@ -94,6 +110,26 @@ impl<const N0: usize, const N1: usize, const N2: usize> Model for WriterPacer<N0
     ghost Value = { Pacer };
 
     ghost view = { λ p. pacer_of p.queues p.next_sequence p.tokens p.counts };
+
+    ghost inverse = { λ v. record { queues = v.queues; next_sequence = v.next_sequence; tokens = v.tokens; counts = v.counts } };
+}
+
+impl WriterPacer<128, 512, 128> {
+    // Empty queues and a full bucket at any limits: each is held to 1 and the slots of its class.
+    #[tactic(auto, using(crate::proofs::Making::made_held))]
+    pub fn with_limits_held(time: u64, limits: Limits, rate_bps: u32) -> Self
+        ensures { result ≡ made time (limits_held limits) rate_bps }
+    {
+        let held = Limits {
+            p0: limits.p0.max(1).min(128),
+            p1: limits.p1.max(1).min(512),
+            p2: limits.p2.max(1).min(128),
+        };
+        match WriterPacer::new(time, held, rate_bps) {
+            Some(pacer) => pacer,
+            None => unreachable!(),
+        }
+    }
 }
 
 impl<const N0: usize, const N1: usize, const N2: usize> WriterPacer<N0, N1, N2> {

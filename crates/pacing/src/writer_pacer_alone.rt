@@ -56,7 +56,7 @@ fn check_making(config: CongestionConfig, time: u64, rate_bps: u32) -> Result<()
 }
 
 // A pacer, and what it reads of the settings; its pool has the pacer's slots alone.
-#[derive(Drop)]
+#[derive(Clone, Copy)]
 pub struct ConfiguredPacer {
     pub config: PacerConfig,
     pub pacer: WriterPacer<128, 512, 128>,
@@ -145,34 +145,57 @@ fn hand_in(
 }
 
 // What is to be sent next; `send_action::sent_bytes` shows the bytes of a sent record.
-#[tactic(auto, unfolding(crate::specs::WriterPacerAlone::sent_alone))]
 pub fn try_send(
-    alone: Alone<ConfiguredPacer>,
+    mut alone: Alone<ConfiguredPacer>,
     time: u64,
     pool: &[u8],
 ) -> Left<Alone<ConfiguredPacer>, SendAction>
     ensures { result ≡ sent_alone alone (length pool.now) time }
 {
-    let ledger = alone.ledger;
+    let answer = send(&mut alone, time, pool.len());
+    Left {
+        state: alone,
+        answer,
+    }
+}
+
+// A send attempt in place, from a pool of so many bytes; turned down all is left as it was.
+#[tactic(auto, unfolding(crate::specs::WriterPacerAlone::sent_alone))]
+fn send(
+    alone: &mut Alone<ConfiguredPacer>,
+    time: u64,
+    pool_length: usize,
+) -> Result<SendAction, Refusal>
+    ensures { sent_alone alone.old pool_length time ≡ record { state = alone.new; answer = result } }
+{
     let config = alone.inner.config;
-    let verdict = check_send(ledger, slots(config.limits), pool.len(), time);
-    alone.changed(verdict, ledger.moved(time), |inner| {
-        inner.pacer.send_if(config.enabled, time)
-    })
+    check_send(alone.ledger, slots(config.limits), pool_length, time)?;
+    alone.ledger = alone.ledger.moved(time);
+    Ok(alone.inner.pacer.send_if(config.enabled, time))
 }
 
 // The rate is held to the settings' range; works with control off too.
 pub fn set_rate(
-    alone: Alone<ConfiguredPacer>,
+    mut alone: Alone<ConfiguredPacer>,
     time: u64,
     rate_bps: u32,
 ) -> Left<Alone<ConfiguredPacer>, ()>
     ensures { result ≡ rated_alone alone time rate_bps }
 {
-    let ledger = alone.ledger;
+    let answer = change_rate(&mut alone, time, rate_bps);
+    Left {
+        state: alone,
+        answer,
+    }
+}
+
+// Another rate in place; turned down all is left as it was.
+fn change_rate(alone: &mut Alone<ConfiguredPacer>, time: u64, rate_bps: u32) -> Result<(), Refusal>
+    ensures { rated_alone alone.old time rate_bps ≡ record { state = alone.new; answer = result } }
+{
+    alone.ledger.check_rate(time, rate_bps)?;
+    alone.ledger = alone.ledger.moved(time);
     let config = alone.inner.config;
-    let verdict = ledger.check_rate(time, rate_bps);
-    alone.changed(verdict, ledger.moved(time), |inner| {
-        inner.pacer.set_rate(config, time, rate_bps)
-    })
+    alone.inner.pacer.set_rate(config, time, rate_bps);
+    Ok(())
 }

@@ -1,3 +1,4 @@
+pub mod Blanks
 pub mod Keys
 pub mod Pools
 pub mod Queues

@@ -1,8 +1,8 @@
 -- What the copier leaves, said of the pool; a record stored is shown again as it was, other slots stay, and no two queues share a slot. Assumes nothing.
 -- Stays: what `store` and pacing/proofs (RecordsInSlots, Records) cite of slots and of whose they are; std has no pool of slots.
-use Prim.Native.Nat.{ℕ, suc, ◌+◌, ◌-◌, ◌*◌, ◌≤◌, ◌<◌}
+use Prim.Native.Nat.{ℕ, zero, suc, ◌+◌, ◌-◌, ◌*◌, ◌≤◌, ◌<◌}
 use mathlib.Core.Bool.{Bool, true, false, cond}
-use mathlib.Core.List.{List, ◌++◌, append_assoc}
+use mathlib.Core.List.{List, [], ◌∷◌, ◌++◌, append_assoc}
 use mathlib.Core.Logic.{◌≢◌, ◌⊎◌, inl, inr}
 use mathlib.Core.Path.{◌≡◌, refl, ap, sym, subst, ◌∙◌}
 use native.Mathlib.Decide.{dec_le}
@@ -10,12 +10,20 @@ use native.Mathlib.Nat.{suc-mul, mul-le-mul_right}
 use native.Mathlib.Omega.{arith}
 use borrow.Author.Tests.{le-leb, leb-true}
 use lib.Dec.{leb}
-use lib.ListN.{length, take, drop, get_or, length-append, length-take, length-drop, take-append-drop, get_or-append}
+use lib.ListN.{length, take, drop, set, get_or, length-append, length-take, length-drop, take-append-drop, get_or-append}
 use lib.Seq.{drop-drop, drop-append-le, drop_at, length-take-le, take-append_seam, get_or-append-add, get_or-take, get_or-drop, ext_get_or}
 use Rattle.config.specs.Config.{class_number}
 use Rattle.config.specs.declared.config.Priority.{Priority}
 use Rattle.config.specs.declared.config.Priority.TheVariants.{P0, P1, P2}
 use Rattle.queue.specs.Pool.{Limits, piece, put, copied, stored, bytes_of, limit_in, slots_of, slots_before}
+
+-- a turn's store takes the copy of i bytes to the copy of one more
+-- Stays: what the copier's loop cites.
+pub turn : (s d : List ℕ) (i : ℕ) → i < length s → i < length d → set (take i s ++ drop i d) i (get_or s i 0) ≡ take (suc i) s ++ drop (suc i) d
+turn [] d i h k = absurd (omega arith)
+turn (x ∷ xs) [] i h k = absurd (omega arith)
+turn (x ∷ xs) (y ∷ ys) zero h k = refl
+turn (x ∷ xs) (y ∷ ys) (suc i) h k = ap (λ (l : List ℕ). x ∷ l) (turn xs ys i (omega arith) (omega arith))
 
 -- what is left behind n bytes of a part of w
 drop_part : (n w : ℕ) (l : List ℕ) → n ≤ w → w ≤ length l → drop n (take w l) ++ drop w l ≡ drop n l

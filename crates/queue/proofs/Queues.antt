@@ -1,13 +1,20 @@
 -- What the slots of a queue say of the list that contracts see, and what its calls do to both. Assumes nothing.
 -- Stays: what the clauses of `Queue` and of its search cite, and Rings; std has none of rings.
 use Rattle.std.proofs.Common.{◌≡◌, ℕ, ◌+◌, ◌-◌, ◌%◌, ◌<◌, ◌≤◌, min, max, Bool, true, false, cond, List, [], ◌∷◌, ◌++◌, length, get_or, set, take, drop, slice_get, None, Some, refl, sym, ap, ap₂, ◌∙◌, Option, arith, mod-eq_of_lt, lt-ltb, le-ltb}
+use Rattle.std.proofs.lemmas.Bool.{le-leb}
 use native.Mathlib.Nat.{mod-add-mod, mod-eq-sub-mod}
 use Rattle.std.proofs.lemmas.Option.{none-some, slice_get-get_or}
 use Rattle.std.proofs.lemmas.List.{length-drop, length-take-le}
 use Rattle.std.specs.List.{position_from}
-use Rattle.queue.specs.Waiting.{Waiting, waiting_of, first, slot_of, popped, popped_front, roomy, added, joined, next_slot, pushed_out, exchanged}
-use Rattle.queue.specs.Window.{window}
-use Rattle.queue.proofs.Windows.{length_window, window_at, window_popped, window_joined, window_pushed_out, window_exchanged, window_parts}
+use Rattle.queue.specs.Waiting.{Waiting, waiting_of, limit_fits, limit_held, first, slot_of, popped, popped_front, roomy, added, joined, next_slot, pushed_out, exchanged}
+use Rattle.queue.specs.Window.{window, IsLaid}
+use Rattle.queue.proofs.Blanks.{all_blank, blank_empty}
+use Rattle.queue.proofs.Windows.{length_window, window_at, window_left, window_joined, window_pushed_out, window_exchanged, window_parts}
+
+-- a limit that is held finds room
+pub held_fits : (N limit : ℕ) → 1 ≤ N → N ≤ 512 → limit_fits N (limit_held N limit) ≡ true
+held_fits N limit some h =
+    rw (le-leb 1 (min (max limit 1) N) (omega (arith, some)), le-leb (min (max limit 1) N) N (omega arith), le-leb N 512 h) refl
 
 module _ {E : Type 0} where
   -- ---- the list alone
@@ -61,13 +68,13 @@ module _ {E : Type 0} where
 
 -- ---- the list and the slots: n entries from slot h on, around a ring of the first L of N slots, as the type's invariant has them
 
-module _ {E : Type 0} (slots : List E) (N L h n : ℕ) (q : Waiting E) (wide : length slots ≡ N)
-    (ok : (h < L) × ((n ≤ L) × ((L ≤ N) × (N ≤ 512)))) (seen : waiting_of (window slots L h n) h L ≡ q) where
+module _ {E : Type 0} (b : E) (slots : List E) (N L h n : ℕ) (q : Waiting E) (wide : length slots ≡ N)
+    (ok : (h < L) × (n ≤ L) × (L ≤ N) × (N ≤ 512) × IsLaid b N L h n slots) (seen : waiting_of (window slots L h n) h L ≡ q) where
   fits : L ≤ length slots
-  fits = omega (arith, ok.1.1.0)
+  fits = omega (arith, ok.2)
 
   count_is : length q.items ≡ n
-  count_is = ap (λ (w : Waiting E). length w.items) (sym seen) ∙ length_window slots L h n ok.0 ok.1.0 fits
+  count_is = ap (λ (w : Waiting E). length w.items) (sym seen) ∙ length_window slots L h n ok.0 ok.1 fits
 
   limit_is : q.limit ≡ L
   limit_is = ap (λ (w : Waiting E). w.limit) (sym seen)
@@ -80,7 +87,7 @@ module _ {E : Type 0} (slots : List E) (N L h n : ℕ) (q : Waiting E) (wide : l
   entry_is : (k s : ℕ) (d : E) → k < n → s ≡ slot_of q k → get_or slots s d ≡ get_or q.items k d
   entry_is k s d inside e =
       ap (λ (t : ℕ). get_or slots t d) (e ∙ slot_is k)
-      ∙ sym (window_at slots L h n k d ok.0 inside ok.1.0 fits)
+      ∙ sym (window_at slots L h n k d ok.0 inside ok.1 fits)
       ∙ ap (λ (w : Waiting E). get_or w.items k d) seen
 
   -- what waits in a place
@@ -96,11 +103,13 @@ module _ {E : Type 0} (slots : List E) (N L h n : ℕ) (q : Waiting E) (wide : l
       ap (λ (x : E). Some x) (entry_is 0 h d some here) ∙ sym (first_is q.items d (omega (arith, count_is)))
 
   -- the oldest leaves
-  pub popped_held : (s : ℕ) → 0 < n → s ≡ slot_of q 1 → waiting_of (window slots L s (n - 1)) s L ≡ popped_front q
-  popped_held s some e =
+  pub popped_held : (s : ℕ) (x : E) → 0 < n → s ≡ slot_of q 1 → waiting_of (window (set slots h x) L s (n - 1)) s L ≡ popped_front q
+  popped_held s x some e =
       let at : s ≡ (h + 1) % L = e ∙ slot_is 1 in
-      let items : window slots L s (n - 1) ≡ drop 1 q.items =
-      ap (λ (t : ℕ). window slots L t (n - 1)) at ∙ window_popped slots L h n ok.0 ok.1.0 fits ∙ ap (λ (w : Waiting E). drop 1 w.items) seen in
+      let items : window (set slots h x) L s (n - 1) ≡ drop 1 q.items =
+      ap (λ (t : ℕ). window (set slots h x) L t (n - 1)) at
+      ∙ window_left slots L h n x ok.0 some ok.1 fits
+      ∙ ap (λ (w : Waiting E). drop 1 w.items) seen in
       ap₂ (λ (xs : List E) (t : ℕ). waiting_of xs t L) items e
       ∙ ap (λ (l : ℕ). waiting_of (drop 1 q.items) (slot_of q 1) l) (sym limit_is)
       ∙ sym (popped_some q (omega (arith, count_is)))
@@ -120,7 +129,7 @@ module _ {E : Type 0} (slots : List E) (N L h n : ℕ) (q : Waiting E) (wide : l
       (s : ℕ) (x : E) → L ≤ n → s ≡ slot_of q 1 → waiting_of (window (set slots h x) L s n) s L ≡ joined q x
   pushed_out_held s x full e =
       let at : s ≡ (h + 1) % L = e ∙ slot_is 1 in
-      let all : n ≡ L = omega (arith, ok.1.0) in
+      let all : n ≡ L = omega (arith, ok.1) in
       let items : window (set slots h x) L s n ≡ drop 1 q.items ++ (x ∷ []) =
       ap₂ (λ (t m : ℕ). window (set slots h x) L t m) at all
       ∙ window_pushed_out slots L h x ok.0 fits
@@ -134,7 +143,7 @@ module _ {E : Type 0} (slots : List E) (N L h n : ℕ) (q : Waiting E) (wide : l
   pub next_slot_held : L ≤ n → h ≡ next_slot q
   next_slot_held full =
       let most : max 1 q.limit ≡ L = omega (arith, limit_is, ok.0) in
-      let left : length (drop 1 q.items) ≡ L - 1 = length-drop 1 q.items ∙ omega (arith, count_is, ok.1.0) in
+      let left : length (drop 1 q.items) ≡ L - 1 = length-drop 1 q.items ∙ omega (arith, count_is, ok.1) in
       let same : h + 1 + (L - 1) ≡ h + L = omega (arith, ok.0) in
       let high : L ≤ h + L = omega arith in
       let back : h + L - L ≡ h = omega arith in
@@ -157,7 +166,7 @@ module _ {E : Type 0} (slots : List E) (N L h n : ℕ) (q : Waiting E) (wide : l
   exchanged_held i s x inside e =
       let at : s ≡ (h + i) % L = e ∙ slot_is i in
       ap (λ (xs : List E). waiting_of xs h L)
-      (ap (λ (t : ℕ). window (set slots t x) L h n) at ∙ window_exchanged slots L h n i x ok.0 inside ok.1.0 fits)
+      (ap (λ (t : ℕ). window (set slots t x) L h n) at ∙ window_exchanged slots L h n i x ok.0 inside ok.1 fits)
       ∙ ap (λ (w : Waiting E). exchanged w i x) seen
 
   -- ---- the search: first the slots up to the ring's end, then those from its start on
@@ -167,7 +176,7 @@ module _ {E : Type 0} (slots : List E) (N L h n : ℕ) (q : Waiting E) (wide : l
       let wide : h + m - h ≡ m = omega arith in
       ap (λ (k : ℕ). take k (drop h slots) ++ take (n - m) slots) wide
       ∙ ap (λ (k : ℕ). take k (drop h slots) ++ take (n - k) slots) e
-      ∙ sym (window_parts slots L h n ok.0 ok.1.0 fits)
+      ∙ sym (window_parts slots L h n ok.0 ok.1 fits)
       ∙ ap (λ (w : Waiting E). w.items) seen
 
   pub found_before_turn :
@@ -192,5 +201,8 @@ module _ {E : Type 0} (slots : List E) (N L h n : ℕ) (q : Waiting E) (wide : l
 pub ruleset join_steps = (joined_held, pushed_out_held, next_slot_held, out_held)
 
 pub ruleset pop_steps = (first_got, popped_held)
+
+-- what a restart cites, and the making of a queue
+pub ruleset restart_steps = (all_blank, blank_empty)
 
 pub ruleset find_steps = (found_before_turn, found_behind_turn)

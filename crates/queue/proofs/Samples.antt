@@ -1,11 +1,16 @@
 -- The coalescing queue: the bytes of samples that give way or leave, the place that a search finds, and what stays within the limits. Assumes nothing.
--- Stays: what the clauses of `CoalescingQueue::replace` and `join` cite; these are its own definitions.
-use Rattle.std.proofs.Common.{◌≡◌, ℕ, zero, suc, List, [], ◌∷◌, length, get_or, slice_get, Bool, true, false, cond, ltb, None, refl}
-use Rattle.queue.specs.Coalescing.{Coalescing, length_of, leaving}
+-- Stays: what the clauses of `CoalescingQueue::with_limit_held`, `replace` and `join` cite; these are its own definitions.
+use Rattle.std.proofs.Common.{◌≡◌, ℕ, zero, suc, List, [], ◌∷◌, length, get_or, slice_get, Bool, true, false, cond, ltb, None, Some, refl, arith}
+use Rattle.queue.specs.Coalescing.{Coalescing, new_queue, made, length_of, leaving}
 use Rattle.queue.specs.Entries.{no_keyed_entry}
-use Rattle.queue.specs.Waiting.{first, joins, pushed_out}
+use Rattle.queue.specs.Waiting.{limit_held, first, joins, pushed_out}
+use Rattle.queue.proofs.Queues.{held_fits}
 use Rattle.queue.specs.declared.entry.KeyedEntry.{KeyedEntry}
 use Rattle.queue.specs.declared.fate.Fate.TheVariants.{Joined, PushedOut}
+
+-- a limit that is held finds room
+pub made_held : (limit : ℕ) → made 128 (limit_held 128 limit) ≡ Some (new_queue (limit_held 128 limit))
+made_held limit = rw (held_fits 128 limit (omega arith) (omega arith)) refl
 
 pub length_got : (xs : List KeyedEntry) (place : ℕ) → length_of (slice_get xs place) ≡ (get_or xs place no_keyed_entry).entry.length
 length_got [] place = refl

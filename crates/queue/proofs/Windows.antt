@@ -1,6 +1,6 @@
 -- The laws of a ring's window: what a place holds, and what pops, joins and exchanges do to the list. Assumes nothing.
 -- Stays: what Queues and Rings cite; std has none of rings.
-use Rattle.std.proofs.Common.{◌≡◌, ◌≢◌, ◌⊎◌, ℕ, ◌+◌, ◌-◌, ◌/◌, ◌%◌, ◌<◌, ◌≤◌, min, List, [], ◌∷◌, ◌++◌, length, get_or, set, take, drop, sym, ap, ◌∙◌, inl, inr, arith, mod-lt, mod-eq_of_lt, div-add-mod', mul-le-mul_right}
+use Rattle.std.proofs.Common.{◌≡◌, ◌≢◌, ◌⊎◌, ℕ, ◌+◌, ◌-◌, ◌/◌, ◌%◌, ◌<◌, ◌≤◌, min, List, [], ◌∷◌, ◌++◌, length, get_or, set, take, drop, refl, sym, ap, ◌∙◌, inl, inr, arith, mod-lt, mod-eq_of_lt, div-add-mod', mul-le-mul_right}
 use native.Mathlib.Nat.{mod-add-mod, mod-eq-sub-mod}
 use Rattle.std.proofs.lemmas.Bool.{cases_eq, cases_lt}
 use Rattle.std.proofs.lemmas.List.{same_lists, length-take-le, length-drop, length-set, length-append, get_or-take, get_or-drop, get_or_append_left, get_or-append_right, get_or-set_same, get_or-set_other}
@@ -156,6 +156,26 @@ module _ {E : Type 0} where
 
       place : (k : ℕ) (d : E) → k < n → get_or (window (set slots ((h + i) % L) x) L h n) k d ≡ get_or (set (window slots L h n) i x) k d
       place k d inside = window_at (set slots ((h + i) % L) x) L h n k d head inside room fits_set ∙ go k d inside (cases_eq k i)
+
+  -- the oldest leaves, and its slot is written
+  pub window_left :
+      (slots : List E) (L h n : ℕ) (x : E) → h < L → 0 < n → n ≤ L → L ≤ length slots
+      → window (set slots h x) L ((h + 1) % L) (n - 1) ≡ drop 1 (window slots L h n)
+  window_left slots L h n x head some room fits =
+      window_popped (set slots h x) L h n head room fits_set
+      ∙ ap (λ (s : ℕ). drop 1 (window (set slots s x) L h n)) (sym here)
+      ∙ ap (λ (xs : List E). drop 1 xs) (window_exchanged slots L h n 0 x head some room fits)
+      ∙ behind_first (window slots L h n)
+    where
+      fits_set : L ≤ length (set slots h x)
+      fits_set = omega (arith, length-set slots h x)
+
+      here : (h + 0) % L ≡ h
+      here = let same : h + 0 ≡ h = omega arith in ap (λ (a : ℕ). a % L) same ∙ mod-eq_of_lt head
+
+      behind_first : (xs : List E) → drop 1 (set xs 0 x) ≡ drop 1 xs
+      behind_first [] = refl
+      behind_first (y ∷ ys) = refl
 
   -- the slots up to the ring's end, then those from its start on
   pub window_parts :

@@ -1,5 +1,5 @@
 -- A queue as the list of what waits, oldest first, with the slot of the oldest and the number of slots. Definitions only.
-use Rattle.std.specs.Prelude.{ℕ, ◌+◌, ◌%◌, max, Bool, cond, List, [], ◌∷◌, ◌++◌, length, drop, ltb, leb, ◌&&◌, set, Option, Some, None}
+use Rattle.std.specs.Prelude.{ℕ, ◌+◌, ◌%◌, min, max, Bool, cond, List, [], ◌∷◌, ◌++◌, length, drop, ltb, leb, ◌&&◌, set, Option, Some, None}
 use Rattle.queue.specs.Fates.{kept_as}
 use Rattle.queue.specs.declared.fate.Fate.{Fate}
 use Rattle.queue.specs.declared.fate.Fate.TheVariants.{Joined, PushedOut}
@@ -19,6 +19,10 @@ empty limit = waiting_of [] 0 limit
 -- whether a queue with room for N records can have this limit: 1 to N, and N at most 512
 abbrev pub limit_fits : ℕ → ℕ → Bool
 limit_fits N limit = leb 1 limit && leb limit N && leb N 512
+
+-- a limit that a queue with room for N records has room for: another is held to 1 and N
+abbrev pub limit_held : ℕ → ℕ → ℕ
+limit_held N limit = min (max limit 1) N
 
 abbrev pub made : {E : Type 0} → ℕ → ℕ → Option (Waiting E)
 made N limit = cond (limit_fits N limit) (Some (empty limit)) None

@@ -1,7 +1,7 @@
 // The coalescing queue for background records: under one key only the latest is kept. And the hash that keys are made with.
 ghost use Rattle.std.specs.Prelude.{◌≡◌, fold, length, slice_get};
 ghost use Rattle.queue.specs.Coalescing.{Coalescing, fnv1a, joined_hash, joined_all, new_queue, made, restarted, found, inserted, popped_front, replaced_at, joined_tail, length_of, bytes_then, stats_in};
-ghost use Rattle.queue.specs.Waiting.{first, slot_of};
+ghost use Rattle.queue.specs.Waiting.{first, limit_held, slot_of};
 
 use crate::entry::{Entry, InstanceKey, KeyedEntry};
 use crate::fate::{Fate, Kept};
@@ -67,7 +67,7 @@ fn join_swapped(hash: u64, byte: u8) -> u64
 }
 
 // The queue, its own sequence numbers, the samples replaced and pushed out, and the bytes that wait. At most N samples wait.
-#[derive(Drop)]
+#[derive(Clone, Copy)]
 pub struct CoalescingQueue<const N: usize> {
     queue: Queue<KeyedEntry, N>,
     next_sequence: u64,
@@ -80,6 +80,8 @@ impl<const N: usize> Model for CoalescingQueue<N> {
     ghost Value = { Coalescing };
 
     ghost view = { λ q. record { waiting = q.queue; next_sequence = q.next_sequence; coalesced = q.coalesced; dropped = q.dropped; total_bytes = q.total_bytes } };
+
+    ghost inverse = { λ v. record { queue = v.waiting; next_sequence = v.next_sequence; coalesced = v.coalesced; dropped = v.dropped; total_bytes = v.total_bytes } };
 }
 
 // The Rust's statistics, without the fill ratio.
@@ -91,13 +93,26 @@ pub struct CoalescingStats {
     pub dropped: u64,
 }
 
+impl CoalescingQueue<128> {
+    // An empty queue at any limit: another than 1 to 128 is held to that.
+    #[tactic(auto, using(crate::proofs::Samples::made_held))]
+    pub fn with_limit_held(limit: u16) -> Self
+        ensures { result ≡ new_queue (limit_held 128 limit) }
+    {
+        match CoalescingQueue::new(limit.max(1).min(128)) {
+            Some(queue) => queue,
+            None => unreachable!(),
+        }
+    }
+}
+
 impl<const N: usize> CoalescingQueue<N> {
     // An empty queue, where a queue of this type can have the limit: 1 to N, and N at most 512.
     pub fn new(limit: u16) -> Option<Self>
         ensures { result ≡ made N limit }
     {
         Some(CoalescingQueue {
-            queue: Queue::new(KeyedEntry::BLANK, limit)?,
+            queue: Queue::new(limit)?,
             next_sequence: 0,
             coalesced: 0,
             dropped: 0,

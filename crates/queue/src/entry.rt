@@ -1,7 +1,7 @@
 // What a queue keeps of a record beside its bytes.
 ghost use Rattle.std.specs.Prelude.{◌≡◌};
 ghost use Rattle.queue.specs.Coalescing.{key_of, keyless_of};
-ghost use Rattle.queue.specs.Entries.{entry_of, key_of_hashes, keyed_entry};
+ghost use Rattle.queue.specs.Entries.{entry_of, key_of_hashes, keyed_entry, no_entry, no_keyed_entry};
 
 use crate::coalescing::hash_bytes;
 
@@ -85,5 +85,29 @@ impl KeyedEntry {
         ensures { result ≡ keyed_entry entry key }
     {
         KeyedEntry { entry, key }
+    }
+}
+
+// What a free slot of a queue holds: always the same, so that what waits says what all slots hold.
+pub trait Blank: Copy + Drop {
+    ghost blank_is: { Self };
+
+    fn blank() -> Self
+        ensures { result ≡ blank_is };
+}
+
+impl Blank for Entry {
+    ghost blank_is = { no_entry };
+
+    fn blank() -> Entry {
+        Entry::BLANK
+    }
+}
+
+impl Blank for KeyedEntry {
+    ghost blank_is = { no_keyed_entry };
+
+    fn blank() -> KeyedEntry {
+        KeyedEntry::BLANK
     }
 }

@@ -1,32 +1,54 @@
 // A queue of any plain entries in a ring of slots, seen as the list of what waits. Every function is total.
-ghost use Rattle.std.specs.Prelude.{◌≡◌, ◌+◌, ◌<◌, ◌≤◌, ◌&&◌, length, eqb, slice_get};
+ghost use Rattle.std.specs.Prelude.{◌≡◌, ◌+◌, ◌<◌, ◌≤◌, ◌&&◌, length, eqb, replicate, slice_get};
 ghost use Rattle.std.specs.List.{position_from};
 ghost use Rattle.queue.specs.Entries.{has_key};
 ghost use Rattle.queue.specs.Waiting.{Waiting, waiting_of, empty, limit_fits, made, restarted, first, slot_of, has_room, pushed_out, popped_front, joined, next_slot, joins, exchanged};
-ghost use Rattle.queue.specs.Window.{window};
+ghost use Rattle.queue.specs.Window.{window, laid, IsLaid};
 
-use crate::entry::{InstanceKey, KeyedEntry};
+use crate::entry::{Blank, InstanceKey, KeyedEntry};
 use crate::fate::Fate;
+use std::alloc::AllocError;
 use std::marker::Model;
 
-// At most N entries, in a ring of `limit` slots: the oldest is in slot `head`, and the others follow it around the ring.
-#[derive(Drop)]
-pub struct Queue<E: Copy + Drop, const N: usize> {
+// At most N entries, in a ring of `limit` slots: the oldest is in slot `head`, and the others follow it around the ring. Each free slot holds a
+// blank, so that what waits says what all slots hold.
+pub struct Queue<E: Blank, const N: usize> {
     entries: [E; N],
     head: u16,
     count: u16,
     limit: u16,
 }
 
-impl<E: Copy + Drop, const N: usize> Model for Queue<E, N> {
+impl<E: Blank, const N: usize> Model for Queue<E, N> {
     ghost Value = { Waiting E };
 
     ghost view = { λ q. waiting_of (window q.entries q.limit q.head q.count) q.head q.limit };
 
-    ghost invariant = { λ q. (q.head < q.limit) × (q.count ≤ q.limit) × (q.limit ≤ N) × (N ≤ 512) };
+    ghost invariant = { λ q. (q.head < q.limit) × (q.count ≤ q.limit) × (q.limit ≤ N) × (N ≤ 512) × IsLaid E.blank_is N q.limit q.head q.count q.entries };
+
+    ghost inverse = { λ w. record { entries = laid E.blank_is N w.limit w.head w.items; head = w.head; count = length w.items; limit = w.limit } };
+
+    ghost inverse_ok = { λ q ok i. record {
+      entries = ok.4.again i;
+      head = q.head;
+      count = ok.4.counted i;
+      limit = q.limit;
+    } };
 }
 
-impl<E: Copy + Drop, const N: usize> Queue<E, N> {
+impl<E: Blank, const N: usize> Clone for Queue<E, N> {
+    ghost is_clone = { λ it copy. copy ≡ it };
+
+    ghost is_infallible = { λ _. Unit {0} };
+
+    fn clone(&self) -> Result<Queue<E, N>, AllocError> {
+        Ok(*self)
+    }
+}
+
+impl<E: Blank, const N: usize> Copy for Queue<E, N> {}
+
+impl<E: Blank, const N: usize> Queue<E, N> {
     // Whether a queue of this type can have this limit: 1 to N, and N at most 512.
     pub fn fits(limit: u16) -> bool
         ensures { result ≡ limit_fits N limit }
@@ -34,13 +56,21 @@ impl<E: Copy + Drop, const N: usize> Queue<E, N> {
         1 <= limit && limit as usize <= N && N <= 512
     }
 
-    // An empty queue, where it can have the limit; `blank` is what a slot holds before its first entry.
-    pub fn new(blank: E, limit: u16) -> Option<Self>
+    // Slots in which nothing waits.
+    fn blanks() -> [E; N]
+        ensures { result ≡ replicate N E.blank_is }
+    {
+        [E::blank(); N]
+    }
+
+    // An empty queue, where it can have the limit.
+    #[tactic(auto, using(crate::proofs::Queues::restart_steps))]
+    pub fn new(limit: u16) -> Option<Self>
         ensures { result ≡ made N limit }
     {
         if Self::fits(limit) {
             Some(Queue {
-                entries: [blank; N],
+                entries: [E::blank(); N],
                 head: 0,
                 count: 0,
                 limit,
@@ -51,10 +81,14 @@ impl<E: Copy + Drop, const N: usize> Queue<E, N> {
     }
 
     // Empty again with another limit, where it can have it.
+    #[tactic(auto, using(crate::proofs::Queues::restart_steps))]
     pub fn restart(&mut self, limit: u16)
         ensures { self.new ≡ restarted N limit self.old }
     {
         if Self::fits(limit) {
+            if 0 < self.count {
+                self.entries = Self::blanks();
+            }
             self.head = 0;
             self.count = 0;
             self.limit = limit;
@@ -149,9 +183,11 @@ impl<E: Copy + Drop, const N: usize> Queue<E, N> {
         if self.count == 0 {
             return None;
         }
-        let oldest = self.entries[self.head as usize];
+        let slot = self.head as usize;
+        let oldest = self.entries[slot];
         self.head = self.slot(1);
         self.count -= 1;
+        self.entries[slot] = E::blank();
         Some(oldest)
     }
 

@@ -38,14 +38,16 @@ const BATCH_BYTES: usize = BATCH_RECORDS * RECORD_BYTES;
 
 const LINES_BYTES: usize = BATCH_RECORDS * LINE_BYTES;
 
+// The most batches of a run. A proved loop has to end, and nothing says that the input does.
+const MOST_BATCHES: u64 = 4294967296;
+
 // Reads records from the input to its end, and answers each by a line on the output.
 pub fn run(input: &mut impl Read, output: &mut impl Write) -> io::Result<()> {
     let mut modules = Modules::new().or(Err(ErrorKind::InvalidData))?;
     let mut desk = Desk::default();
     let mut batch = ArrayVec::<u8, BATCH_BYTES>::new();
     let mut lines = ArrayVec::<u8, LINES_BYTES>::new();
-    // Batches to the input's end; counted, since a loop must be seen to end.
-    for _ in 0..u64::MAX {
+    for _ in 0..MOST_BATCHES {
         batch.clear();
         lines.clear();
         io::copy(&mut input.take(BATCH_BYTES as u64), &mut batch)?;

@@ -20,9 +20,10 @@ use Rattle.pacing.specs.WriterPacer.{Pacer, pacer_config_of, made, fits, rate_se
 use Rattle.pacing.specs.WriterPacerAlone as alone
 use Rattle.pacing.specs.declared.writer_pacer.PacerConfig.{PacerConfig}
 use Rattle.pacing.specs.declared.send_action.SendAction.{SendAction}
+use Rattle.signals.specs.RttEstimator.{any_inflated}
 use Rattle.signals.specs.RttEstimatorAlone.{sample_checks}
 use Rattle.control.specs.BudgetAllocator.{row_at, place_of, is_known}
-use Rattle.control.specs.Controller.{controller_config_of, on_eagain, on_nacks, on_ecn_tos, new_controller, with_core, registered_in, sampled, controller_ticked, controller_set, full_for_peer}
+use Rattle.control.specs.Controller.{controller_config_of, on_eagain, on_nacks, on_ecn_tos, new_controller, with_core, registered_in, sampled, controller_ticked_by, controller_set, full_for_peer}
 use Rattle.control.specs.declared.budget_allocator.WriterTable.{WriterTable}
 use Rattle.control.specs.declared.controller.ControllerCore.{ControllerCore}
 use Rattle.control.specs.declared.controller.CongestionController.{CongestionController}
@@ -228,10 +229,14 @@ abbrev pub tick_leaves : Station → ℕ → CongestionController × Bool → Le
 tick_leaves s time t =
     cond t.1 (answer_with (Ok true) (allotted s time t.0)) (answer_with (Ok false) (steered s time t.0))
 
-unfoldable pub ticked_station : Station → ℕ → Left Station Bool
-ticked_station s time =
+-- a tick that is told whether a peer is inflated
+unfoldable pub ticked_by : Station → ℕ → Bool → Left Station Bool
+ticked_by s time inflated =
     left_by (verdict_of (timed_checks s.ledger time)) s
-    (tick_leaves s time (controller_ticked s.controller s.config.controller time))
+    (tick_leaves s time (controller_ticked_by s.controller s.config.controller time inflated))
+
+unfoldable pub ticked_station : Station → ℕ → Left Station Bool
+ticked_station s time = ticked_by s time (any_inflated s.controller.tracker)
 
 -- a rate that is set is shared out whether it changed or not: the updates are the allocator's rows
 unfoldable pub rated_station : Station → ℕ → ℕ → Left Station Unit

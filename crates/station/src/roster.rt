@@ -18,7 +18,7 @@ use std::marker::Model;
 pub const MOST_WRITERS: usize = 4;
 
 // A registered writer and its pacer.
-#[derive(Drop)]
+#[derive(Clone, Copy)]
 pub struct Writer<const P0: usize, const P1: usize, const P2: usize> {
     id: u64,
     pacer: WriterPacer<P0, P1, P2>,
@@ -28,11 +28,13 @@ impl<const P0: usize, const P1: usize, const P2: usize> Model for Writer<P0, P1,
     ghost Value = { station.Writer };
 
     ghost view = { λ w. writer_of w.id w.pacer };
+
+    ghost inverse = { λ v. record { id = v.id; pacer = v.pacer } };
 }
 
 // The writers, numbered from 0 as registered.
 // Stays: [6] an array and a count: all four places have a pacer, which is made anew in its place when a writer comes, and is shown before (`pacer`).
-#[derive(Drop)]
+#[derive(Clone, Copy)]
 pub struct Roster<const P0: usize, const P1: usize, const P2: usize> {
     writers: [Writer<P0, P1, P2>; MOST_WRITERS],
     count: u8,
@@ -42,6 +44,8 @@ impl<const P0: usize, const P1: usize, const P2: usize> Model for Roster<P0, P1,
     ghost Value = { station.Roster };
 
     ghost view = { λ r. roster_of r.writers r.count };
+
+    ghost inverse = { λ v. record { writers = v.writers; count = v.count } };
 
     ghost invariant = { λ r. r.count ≤ 4 };
 }

@@ -1,11 +1,12 @@
 // A station: one controller and up to four writers with a pacer each, called in place. A call that is turned down leaves all as it was.
 // What each call does is defined in specs/Station.antt; by_value.rt has the calls by value.
-ghost use Rattle.std.specs.Prelude.{◌≡◌, ◌<◌, OnOk, true, length};
+ghost use Rattle.std.specs.Prelude.{◌≡◌, ◌<◌, OnOk, OnErr, true, length};
+ghost use Rattle.control.specs.Controller.{sampled};
 ghost use Rattle.config.specs.Refusal.{verdict_of};
 ghost use Rattle.pacing.specs.WriterPacer.{fits, metrics_in};
 ghost use Rattle.pacing.specs.WriterPacer as pacer;
 ghost use Rattle.queue.specs.Pool.{limits_of};
-ghost use Rattle.station.specs.Station.{station_config_of, station_of, room_checks, made_station, register_checks, registered_station, eagain_station, nacks_station, tos_station, rtt_checks, rtt_station, ticked_station, rated_station, allotted_to, slots_needed, hand_in_checks, handed_station, pool_handed, send_checks, sent_station, pacer_in};
+ghost use Rattle.station.specs.Station.{station_config_of, station_of, room_checks, made_station, register_checks, registered_station, eagain_station, nacks_station, tos_station, rtt_checks, rtt_station, ticked_by, ticked_station, rated_station, allotted_to, slots_needed, hand_in_checks, handed_station, pool_handed, send_checks, sent_station, pacer_in};
 ghost use Rattle.station.specs.Station as station;
 
 use crate::roster::Roster;
@@ -64,7 +65,7 @@ fn slots_needed(limits: Limits) -> usize
 }
 
 // The queues of its pacers have room for P0, P1 and P2 records.
-#[derive(Drop)]
+#[derive(Clone, Copy)]
 pub struct Station<const P0: usize, const P1: usize, const P2: usize> {
     pub(crate) ledger: Ledger,
     config: StationConfig,
@@ -76,6 +77,8 @@ impl<const P0: usize, const P1: usize, const P2: usize> Model for Station<P0, P1
     ghost Value = { station.Station };
 
     ghost view = { λ s. station_of s.ledger s.config s.controller s.roster };
+
+    ghost inverse = { λ v. record { ledger = v.ledger; config = v.config; controller = v.controller; roster = v.roster } };
 
     ghost invariant = { λ s. fits P0 P1 P2 s.config.pacer.limits ≡ true };
 }
@@ -160,24 +163,24 @@ impl<const P0: usize, const P1: usize, const P2: usize> Station<P0, P1, P2> {
         Ok(signal)
     }
 
-    // 4, 7, 17, 11 and 14; with control off no peer is entered, and 14 is not looked at.
-    fn check_rtt(&self, time: u64, peer_id: u32, rtt_ms: f32) -> Result<(), Refusal>
-        ensures { result ≡ verdict_of (rtt_checks self.now time peer_id rtt_ms) }
+    // 4, 7, 17, 11 and 14; where none applies the sample is entered. With control off no peer is, and 14 is not looked at.
+    #[tactic(auto, using(crate::proofs::Peers::sample_steps), unfolding(config::specs::Refusal::verdict_of))]
+    fn enter_sample(&mut self, time: u64, peer_id: u32, rtt_ms: f32) -> Result<(), Refusal>
+        ensures verdict { result ≡ verdict_of (rtt_checks self.old time peer_id rtt_ms) }
+        ensures entered { OnOk result (self.new ≡ station_of self.old.ledger self.old.config (sampled self.old.controller self.old.config.controller time peer_id rtt_ms) self.old.roster) }
+        ensures left { OnErr result (self.new ≡ self.old) }
     {
         check_sample(self.ledger, time, rtt_ms)?;
-        let is_full = self
-            .controller
-            .is_full_for_peer(self.config.controller, peer_id);
-        Refusal::TableFull.when(is_full)
+        let settings = self.config.controller;
+        let has_room = self.controller.take_sample(settings, time, peer_id, rtt_ms);
+        Refusal::TableFull.when(!has_room)
     }
 
     // A peer's round-trip time in milliseconds.
     pub fn on_rtt_sample(&mut self, time: u64, peer_id: u32, rtt_ms: f32) -> Result<(), Refusal>
         ensures { rtt_station self.old time peer_id rtt_ms ≡ record { state = self.new; answer = result } }
     {
-        self.check_rtt(time, peer_id, rtt_ms)?;
-        self.controller
-            .on_rtt_sample(self.config.controller, time, peer_id, rtt_ms);
+        self.enter_sample(time, peer_id, rtt_ms)?;
         self.ledger = self.ledger.moved(time);
         Ok(())
     }
@@ -191,12 +194,23 @@ impl<const P0: usize, const P1: usize, const P2: usize> Station<P0, P1, P2> {
             .budget_all(settings, time, self.controller.table());
     }
 
-    // Whether the rate changed; it is then shared out, and the updates are the allocator's rows.
+    // Whether the rate changed; it is then shared out, and the updates are the allocator's rows. A tick that is turned down asks no peer.
     pub fn tick(&mut self, time: u64) -> Result<bool, Refusal>
         ensures { ticked_station self.old time ≡ record { state = self.new; answer = result } }
     {
         self.ledger.check_timed(time)?;
-        let changed = self.controller.tick(self.config.controller, time);
+        let inflated = self.controller.tracker().any_inflated();
+        self.tick_told(time, inflated)
+    }
+
+    // A tick for a caller that knows whether a peer's round-trip time is inflated; 7, 17 and 11, and the answer of `tick`.
+    pub fn tick_told(&mut self, time: u64, inflated: bool) -> Result<bool, Refusal>
+        ensures { ticked_by self.old time inflated ≡ record { state = self.new; answer = result } }
+    {
+        self.ledger.check_timed(time)?;
+        let changed = self
+            .controller
+            .tick_told(self.config.controller, time, inflated);
         if changed {
             self.allot(time);
         }

@@ -25,14 +25,14 @@ use Rattle.numeric.specs.Float.{scaled}
 use Rattle.queue.specs.declared.entry.InstanceKey.{InstanceKey}
 use Rattle.signals.specs.RttEstimator.{any_inflated}
 use Rattle.control.specs.BudgetAllocator.{new_writer, blank_writer, taken_of, new_table, writers_of, place_of, place_for, lacking, with_row, without_row, entered, without, share_of, shares_of, budget_for, with_budget, allotted_table, one, registered, reallocated}
-use Rattle.control.specs.Controller.{new_controller, registered_in, sampled, CoreTicked, ControllerTicked, ticked_with, core_ticked, controller_ticked, controller_set}
+use Rattle.control.specs.Controller.{new_controller, registered_in, sampled, CoreTicked, ControllerTicked, ticked_with, core_ticked, controller_set}
 use Rattle.control.specs.declared.budget_allocator.AllocationConfig.{AllocationConfig}
 use Rattle.control.specs.declared.budget_allocator.BudgetAllocator.{BudgetAllocator}
 use Rattle.control.specs.declared.budget_allocator.Shares.{Shares}
 use Rattle.control.specs.declared.budget_allocator.WriterInfo.{WriterInfo}
 use Rattle.control.specs.declared.budget_allocator.WriterTable.{WriterTable}
 use Rattle.control.specs.declared.controller.CongestionController.{CongestionController}
-use Rattle.station.specs.Station.{Station, joined, with_pacer, left_by, register_checks, register_leaves, registered_station, eagain_station, nacks_station, tos_station, rtt_station, budgeted_all, tick_leaves, ticked_station, rated_station, handed_station, sent_station}
+use Rattle.station.specs.Station.{Station, joined, with_pacer, left_by, register_checks, register_leaves, registered_station, eagain_station, nacks_station, tos_station, rtt_station, budgeted_all, tick_leaves, ticked_by, ticked_station, rated_station, handed_station, sent_station}
 use Rattle.tape.specs.Item.{words_of, item_at, takes, placed, is_end, stops, items_from, items_of}
 use Rattle.tape.specs.Run.{Player, player_of, new_player, fields, updates, told_text, Line, line_of, updates_of, tick_told, rate_told, Step, silent, saying, ticked, rated, played, lines_of, text_of, tape_text}
 use Rattle.tape.specs.Text.{decimal_by, fields_text, line_text}
@@ -197,7 +197,7 @@ module _ (s : Station) (time : ℕ) (ok : IsBounded s) where
       (λ e. (small-shared k.0.rate_controller.current_rate, ok.1)) (λ e. ok)
 
   bounded-ticked : IsBounded (ticked_station s time).state
-  unfolding ticked_station controller_ticked
+  unfolding ticked_by ticked_station
   bounded-ticked =
       bounded-left _ s _ ok
       (λ e. bounded-leaves (core_ticked s.controller.core s.config.controller time (any_inflated s.controller.tracker)))

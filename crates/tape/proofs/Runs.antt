@@ -7,6 +7,7 @@ use Rattle.std.specs.Borrow.{MutBor}
 use Rattle.config.specs.Config.{failed_check, not_in_open_closed, not_in_open, not_in_closed, rates_beyond, floats_beyond, queues_beyond, limit_beyond}
 use Rattle.config.specs.Refusal.{verdict_of}
 use Rattle.station.specs.Station.{made_by, made_station}
+use Rattle.station.proofs.Peers.{peers_kept}
 use Rattle.tape.specs.Item.{items_of}
 use Rattle.tape.specs.Run.{Player, tape_settings, new_player, played, lines_of, text_of, tape_text, room_for, lines_left}
 use Rattle.tape.specs.Text.{added, lines_in, header}
@@ -31,7 +32,9 @@ told_all bytes ls p xs e = rw e (sym (added_nothing ls))
 
 pub ruleset told_steps = (common_steps, told_more, told_all, items_stand)
 
-pub ruleset play_steps = (common_steps, added_nothing, added_both, body_whole)
+pub ruleset play_steps = (common_steps, added_nothing, added_both, body_whole, peers_kept)
+
+pub ruleset kept_steps = (common_steps, added_nothing, added_both, peers_kept)
 
 -- the whole run told, the buffer holds the tape's text and what stood behind it
 -- Stays: run cites it, by the set run_steps.

@@ -1,9 +1,10 @@
 -- Laws of texts put one after the other, and how long numbers and lines are. Assumes nothing.
 -- Stays: what the functions of text.rt, the runs and the bound of Bounds go by, and examples that docs/GUARANTEES.md names; of std are the lists and the digits.
 use native.Mathlib.Decide.{dec_le}
-use Rattle.std.proofs.Common.{rules, ◌≡◌, refl, sym, ◌∙◌, ℕ, zero, suc, ◌+◌, ◌*◌, ◌/◌, ◌%◌, ◌^◌, ◌≤◌, ◌<◌, min, max, Bool, true, false, cond, ltb, List, [], ◌∷◌, ◌++◌, length, drop, set, arith, length-append}
+use Rattle.std.proofs.Common.{rules, ◌≡◌, refl, sym, ◌∙◌, ℕ, zero, suc, ◌+◌, ◌*◌, ◌/◌, ◌%◌, ◌^◌, ◌≤◌, ◌<◌, min, max, Bool, true, false, cond, ltb, List, [], ◌∷◌, ◌++◌, length, drop, take, get_or, set, arith, length-append}
 use Rattle.std.proofs.Math.Nat.{add-zero}
-use Rattle.std.proofs.Math.Seq.{set_out, sets, length-sets, sets-eq}
+use Rattle.std.proofs.Math.Seq.{set_out, sets, length-sets, sets-eq, take-suc}
+use native.Mathlib.Numerals.{add-one}
 use Rattle.std.proofs.lemmas.Fmt.{AppendsLastDigit, decimal_from_appends, length-decimal-le}
 use Rattle.std.proofs.lemmas.Grind.{common_steps}
 use Rattle.std.proofs.lemmas.List.Elements.{All-head, All-tail}
@@ -90,6 +91,42 @@ unfolding added written ended
 added_beyond ls b h =
     let stays : max ls.end (min (ls.end + 1) (length ls.bytes.now)) ≡ ls.end = omega arith in
     rw (stays, set_out ls.bytes.now ls.end b h)
+
+-- a byte more of a text that was put from a place on
+pub put_inside :
+    (ls : List ℕ) (at : ℕ) (a : List ℕ) (b : ℕ) → ended (length ls) at (length a) < length ls
+    → (set (written ls at a) (ended (length ls) at (length a)) b ≡ written ls at (a ++ (b ∷ [])))
+    × (ended (length ls) at (length a) + 1 ≡ ended (length ls) at (length (a ++ (b ∷ []))))
+unfolding written ended
+put_inside ls at a b h = (written-written ls at a (b ∷ []), rw length-append (omega arith))
+
+-- .. and where there is no room for it
+pub put_beyond :
+    (ls : List ℕ) (at : ℕ) (a : List ℕ) (b : ℕ) → length ls ≤ ended (length ls) at (length a)
+    → (written ls at (a ++ (b ∷ [])) ≡ written ls at a) × (ended (length ls) at (length (a ++ (b ∷ []))) ≡ ended (length ls) at (length a))
+unfolding written ended
+put_beyond ls at a b h =
+    (sym (written-written ls at a (b ∷ [])) ∙ set_out (written ls at a) _ b (rw length-written h), rw length-append (omega arith))
+
+-- the same of the byte at a place of the text
+pub put_more :
+    (ls : List ℕ) (at : ℕ) (text : List ℕ) (k : ℕ) {left : List ℕ} {next : ℕ} → k < length text → left ≡ written ls at (take k text)
+    → next ≡ ended (length ls) at (length (take k text)) → next < length left
+    → (set left next (get_or text k 0) ≡ written ls at (take (k + 1) text)) × (next + 1 ≡ ended (length ls) at (length (take (k + 1) text)))
+put_more ls at text k inside p q room =
+    rw (p, q, add-one, take-suc text k 0 inside) (put_inside ls at (take k text) (get_or text k 0) (rw (p, q, length-written) at room))
+
+pub put_lost :
+    (ls : List ℕ) (at : ℕ) (text : List ℕ) (k : ℕ) {left : List ℕ} {next : ℕ} → k < length text → left ≡ written ls at (take k text)
+    → next ≡ ended (length ls) at (length (take k text)) → length left ≤ next
+    → (left ≡ written ls at (take (k + 1) text)) × (next ≡ ended (length ls) at (length (take (k + 1) text)))
+put_lost ls at text k inside p q none =
+    let same = put_beyond ls at (take k text) (get_or text k 0) (rw (p, q, length-written) at none) in
+    rw (add-one, take-suc text k 0 inside) (p ∙ sym same.0, q ∙ sym same.1)
+
+pub put_none : (ls : List ℕ) (at : ℕ) → (written ls at [] ≡ ls) × (ended (length ls) at 0 ≡ at)
+unfolding written ended
+put_none ls at = (refl, omega arith)
 
 -- ---- where there is room
 

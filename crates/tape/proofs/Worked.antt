@@ -17,7 +17,7 @@ use Rattle.control.specs.Controller.{new_core, on_inflated, on_window, steered, 
 use Rattle.control.specs.RateController.{decreased, with_params, changed_to, applied}
 use Rattle.control.specs.Scorer as scorer
 use Rattle.control.specs.Scorer.{added_if, impulse_of, congested_at, evaluated_stable, evaluated, ticked}
-use Rattle.station.specs.Station.{is_here, joined, left_by, register_leaves, registered_station, eagain_station, budgeted, budgeted_all, ticked_station, sent_station}
+use Rattle.station.specs.Station.{is_here, joined, left_by, register_leaves, registered_station, eagain_station, budgeted, budgeted_all, ticked_by, ticked_station, sent_station}
 use Rattle.tape.specs.Item.{word_at, whole, register_of, signal_of, item_by, item_at, takes, is_end, stops, items_from, items_of}
 use Rattle.tape.specs.Run.{fields_by, tick_told, rate_told, played, lines_of, text_of, tape_text}
 use Rattle.tape.specs.Text.{decimal_by, fields_text, update_text, each_text, updates_text, line_text}
@@ -43,5 +43,5 @@ whole_lines =
 
 -- Stays: a theorem that docs/GUARANTEES.md and docs/COVERAGE.md name.
 pub whole_tape-lines : tape_text whole_tape ≡ whole_lines
-unfolding scaled of_int of_bits add mul div le to_unsigned is_nan verdict_of first is_short rate_set attempt_p0 paid limited attempt sent_from sent_if any_inflated comes_before place_of place_for lacking with_row allocator.entered is_known without weighed weights_from share_of reserve_of split_of urgent_part left_from shares_of budget_for with_budget allotted_table registered reallocated new_core controller.on_eagain on_inflated on_window steered core_ticked new_controller registered_in controller_ticked decreased with_params changed_to applied scorer.on_eagain added_if impulse_of congested_at evaluated_stable evaluated ticked is_here joined left_by register_leaves registered_station eagain_station budgeted budgeted_all ticked_station sent_station word_at whole register_of signal_of item_by item_at takes is_end stops items_from items_of fields_by tick_told rate_told played lines_of text_of tape_text decimal_by fields_text update_text each_text updates_text line_text
+unfolding scaled of_int of_bits add mul div le to_unsigned is_nan verdict_of first is_short rate_set attempt_p0 paid limited attempt sent_from sent_if any_inflated comes_before place_of place_for lacking with_row allocator.entered is_known without weighed weights_from share_of reserve_of split_of urgent_part left_from shares_of budget_for with_budget allotted_table registered reallocated new_core controller.on_eagain on_inflated on_window steered core_ticked new_controller registered_in controller_ticked decreased with_params changed_to applied scorer.on_eagain added_if impulse_of congested_at evaluated_stable evaluated ticked is_here joined left_by register_leaves registered_station eagain_station budgeted budgeted_all ticked_by ticked_station sent_station word_at whole register_of signal_of item_by item_at takes is_end stops items_from items_of fields_by tick_told rate_told played lines_of text_of tape_text decimal_by fields_text update_text each_text updates_text line_text
 whole_tape-lines = refl

@@ -1,8 +1,9 @@
 -- The run of a tape ("The tape"): what each item does to a station, the clock and the pool, and which line it prints.
 -- Definitions only.
-use Rattle.std.specs.Prelude.{◌≡◌, ℕ, ◌+◌, ◌*◌, ◌^◌, min, Bool, true, cond, List, [], ◌∷◌, ◌++◌, ltb, length, drop, replicate, Result, Ok, Err}
+use Rattle.std.specs.Prelude.{◌≡◌, ℕ, ◌+◌, ◌*◌, ◌^◌, min, Bool, true, cond, List, [], ◌∷◌, ◌++◌, ltb, length, drop, replicate, Option, Result, Ok, Err}
 use Rattle.std.specs.Float.{binary32}
 use Rattle.std.specs.Float.Ieee.{of_bits}
+use Rattle.std.specs.Option.{unwrap_or}
 use Rattle.config.specs.Config.{defaults, settings_with}
 use Rattle.config.specs.Refusal.{accepted, number_of, none_number, result_number}
 use Rattle.config.specs.declared.alone.Left.{Left}
@@ -15,6 +16,7 @@ use Rattle.queue.specs.Fates.{fate_number}
 use Rattle.pacing.specs.WriterPacer.{action_number}
 use Rattle.pacing.specs.declared.send_action.SendAction.{SendAction}
 use Rattle.pacing.specs.declared.send_action.SendAction.TheVariants as action
+use Rattle.signals.specs.RttEstimator.{any_inflated}
 use Rattle.control.specs.BudgetAllocator.{writers_of}
 use Rattle.control.specs.declared.budget_allocator.WriterInfo.{WriterInfo}
 use Rattle.station.specs.Station.{Station, station_config_of, new_station, registered_station, eagain_station, nacks_station, tos_station, rtt_station, ticked_station, rated_station, handed_station, pool_handed, sent_station}
@@ -46,6 +48,10 @@ player_of s clock pool = record { station = s; clock = clock; pool = pool }
 -- what the program's player holds, whose pool is lent
 abbrev pub seen : lent.Player → Player
 seen p = player_of p.station p.clock p.pool.now
+
+-- what the program's player remembers of a station's peers, whether one is inflated, is so
+abbrev pub Remembered : Option Bool → Station → Type 0
+Remembered inflated s = unwrap_or inflated (any_inflated s.controller.tracker) ≡ any_inflated s.controller.tracker
 
 -- 4 × 1,472 × (2 + 4 + 2) bytes
 abbrev pub new_player : Player

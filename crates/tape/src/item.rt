@@ -79,6 +79,7 @@ impl Iterator for Items<'_> {
 
     ghost remaining = { item_count items_left };
 
+    #[inline(always)]
     #[tactic(auto, using(crate::proofs::Items::item_steps))]
     fn next(&mut self) -> Option<Placed> {
         let index = self.next?;
@@ -137,8 +138,9 @@ fn hand_in_words(class: Priority, length: u16) -> usize
 }
 
 // The words that belong to an item.
-fn words_taken(item: Item) -> usize
-    ensures { result ≡ takes item }
+pub fn words_taken(item: Item) -> usize
+    ensures value { result ≡ takes item }
+    ensures lower_bound { (1 ≤ result) × (result ≤ 16389) }
 {
     match item {
         Item::Rtt { .. } => 2,

@@ -1,10 +1,11 @@
 // The run of a tape on a station of its own: each item is decoded, played on the station, and answered by a line.
-#![tactic(auto, unfolding(crate::specs::Run::fields_by, crate::specs::Run::tick_told, crate::specs::Run::rate_told, crate::specs::Run::played, crate::specs::Run::text_of, crate::specs::Run::ran_tape, crate::specs::Run::lines_left))]
+#![tactic(auto, using(crate::proofs::Runs::kept_steps), unfolding(station::specs::Station::ticked_station, crate::specs::Run::fields_by, crate::specs::Run::tick_told, crate::specs::Run::rate_told, crate::specs::Run::played, crate::specs::Run::text_of, crate::specs::Run::ran_tape, crate::specs::Run::lines_left))]
 
-ghost use Rattle.std.specs.Prelude.{◌≡◌, length, ltb, Ok};
+ghost use Rattle.std.specs.Prelude.{◌≡◌, length, ltb, Ok, Some};
+ghost use Rattle.signals.specs.RttEstimator.{any_inflated};
 ghost use Rattle.station.specs.Station.{tos_station, ticked_station, sent_station, rated_station};
 ghost use Rattle.tape.specs.Item.{body_at, items_of, Stands};
-ghost use Rattle.tape.specs.Run.{tape_settings, new_player, advanced, action_fields, flagged, ticked, handed_by, sent_by, rated, played, lines_of, text_of, updates_of, seen, Leaves, room_for, ran_tape, lines_left};
+ghost use Rattle.tape.specs.Run.{tape_settings, new_player, advanced, action_fields, flagged, ticked, handed_by, sent_by, rated, played, lines_of, text_of, updates_of, seen, Remembered, Leaves, room_for, ran_tape, lines_left};
 ghost use Rattle.tape.specs.Text.{added, line_text, updates_text};
 
 use crate::item;
@@ -24,11 +25,13 @@ const POOL_BYTES: usize = 47104;
 const CLOCK_STOP: u64 = 0x8000_0000_0000_0000;
 
 // A station of its own, the clock in nanoseconds, and the pool, which is lent so that it is never moved.
+// Whether a peer is inflated is remembered from the first tick that asks up to the next sample.
 #[derive(Drop)]
 struct Player<'a> {
     station: Station<2, 4, 2>,
     clock: u64,
     pool: &'a mut [u8],
+    inflated: Option<bool>,
 }
 
 // The defaults, with queue limits 2, 4 and 2 and ECN opportunistic.
@@ -88,12 +91,13 @@ fn send_from(
 }
 
 impl Player<'_> {
-    // Every item of a tape, in turn.
+    // Every item of a tape, in turn; of the peers nothing is remembered at first.
     // Stays: [5] each of these clauses names another text; that it stands behind the lines before is what `added` says.
     #[tactic(auto, using(crate::proofs::Runs::told_steps))]
     fn play_all(&mut self, tape: &[u8], lines: &mut Lines)
         ensures { lines.new ≡ added lines.old (text_of (lines_of tape.now (seen self.old) (items_of tape.now))) }
     {
+        self.inflated = None;
         for placed in Items::new(tape) {
             self.play(tape, placed, lines);
         }
@@ -102,8 +106,10 @@ impl Player<'_> {
     // One item of a tape, and its line.
     #[tactic(auto, using(crate::proofs::Runs::play_steps), unfolding(crate::specs::Run::played, crate::specs::Run::text_of))]
     fn play(&mut self, tape: &[u8], placed: Placed, lines: &mut Lines)
-        requires { Stands tape.now placed }
-        ensures { Leaves (played tape.now (seen self.old) placed.index placed.item) (seen self.new) lines.old lines.new }
+        requires stands { Stands tape.now placed }
+        requires remembered { Remembered self.old.inflated self.old.station }
+        ensures leaves { Leaves (played tape.now (seen self.old) placed.index placed.item) (seen self.new) lines.old lines.new }
+        ensures remembered { Remembered self.new.inflated self.new.station }
     {
         let k = placed.index;
         match placed.item {
@@ -126,6 +132,7 @@ impl Player<'_> {
             Item::Rtt { peer, bits } => {
                 let rtt_ms = f32_from_bits_with_nan(bits);
                 let answer = self.station.on_rtt_sample(self.clock, peer, rtt_ms);
+                self.inflated = None;
                 lines.put_line(k, answer.number(), Fields::Nothing);
             }
             Item::Tick => self.tick(k, lines),
@@ -144,7 +151,9 @@ impl Player<'_> {
 
     // A TOS byte, and whether it signals congestion.
     fn mark(&mut self, byte: u8, k: usize, lines: &mut Lines)
-        ensures { Leaves (flagged (seen self.old) k (tos_station self.old.station self.old.clock byte)) (seen self.new) lines.old lines.new }
+        requires { Remembered self.old.inflated self.old.station }
+        ensures leaves { Leaves (flagged (seen self.old) k (tos_station self.old.station self.old.clock byte)) (seen self.new) lines.old lines.new }
+        ensures remembered { Remembered self.new.inflated self.new.station }
     {
         match self.station.on_ecn_tos(self.clock, byte) {
             Ok(flag) => lines.put_line(k, ACCEPTED, Fields::Flag(flag)),
@@ -160,11 +169,28 @@ impl Player<'_> {
         lines.put_updates(k, station.controller().table().writers());
     }
 
+    // Whether a peer is inflated; the peers are asked where that is not remembered.
+    fn any_inflated(&mut self) -> bool
+        requires { Remembered self.old.inflated self.old.station }
+        ensures value { result ≡ any_inflated self.old.station.controller.tracker }
+        ensures remembers { self.new ≡ record self.old { inflated = Some result } }
+    {
+        let inflated = match self.inflated {
+            Some(inflated) => inflated,
+            None => self.station.controller().tracker().any_inflated(),
+        };
+        self.inflated = Some(inflated);
+        inflated
+    }
+
     // A tick, and every writer's budget where it changed the rate.
     fn tick(&mut self, k: usize, lines: &mut Lines)
-        ensures { Leaves (ticked (seen self.old) k (ticked_station self.old.station self.old.clock)) (seen self.new) lines.old lines.new }
+        requires { Remembered self.old.inflated self.old.station }
+        ensures leaves { Leaves (ticked (seen self.old) k (ticked_station self.old.station self.old.clock)) (seen self.new) lines.old lines.new }
+        ensures remembered { Remembered self.new.inflated self.new.station }
     {
-        match self.station.tick(self.clock) {
+        let inflated = self.any_inflated();
+        match self.station.tick_told(self.clock, inflated) {
             Ok(true) => self.put_budgets(k, lines),
             Ok(false) => lines.put_line(k, ACCEPTED, Fields::Unchanged),
             Err(refusal) => lines.put_line(k, refusal.number(), Fields::Nothing),
@@ -173,8 +199,10 @@ impl Player<'_> {
 
     // A hand-in of the bytes that stand behind its words.
     fn hand_in(&mut self, words: &Words, pacer: u8, class: Priority, bytes: u16, lines: &mut Lines)
-        requires { length (body_at words.now.tape.now words.now.first class bytes) ≡ bytes }
-        ensures { Leaves (handed_by words.now.tape.now (seen self.old) words.now.first pacer class bytes) (seen self.new) lines.old lines.new }
+        requires whole { length (body_at words.now.tape.now words.now.first class bytes) ≡ bytes }
+        requires remembered { Remembered self.old.inflated self.old.station }
+        ensures leaves { Leaves (handed_by words.now.tape.now (seen self.old) words.now.first pacer class bytes) (seen self.new) lines.old lines.new }
+        ensures remembered { Remembered self.new.inflated self.new.station }
     {
         let key = words.key(class);
         let record = words.body(class, bytes);
@@ -186,7 +214,9 @@ impl Player<'_> {
 
     // A send attempt, and what it comes to.
     fn send(&mut self, pacer: u8, k: usize, lines: &mut Lines)
-        ensures { Leaves (sent_by (seen self.old) k (sent_station self.old.station (length self.old.pool.now) self.old.clock pacer)) (seen self.new) lines.old lines.new }
+        requires { Remembered self.old.inflated self.old.station }
+        ensures leaves { Leaves (sent_by (seen self.old) k (sent_station self.old.station (length self.old.pool.now) self.old.clock pacer)) (seen self.new) lines.old lines.new }
+        ensures remembered { Remembered self.new.inflated self.new.station }
     {
         match send_from(&mut self.station, self.pool, self.clock, pacer) {
             Ok(action) => lines.put_line(k, ACCEPTED, action_fields(action)),
@@ -196,7 +226,9 @@ impl Player<'_> {
 
     // A rate setting, and every writer's budget.
     fn set_rate(&mut self, rate_bps: u32, k: usize, lines: &mut Lines)
-        ensures { Leaves (rated (seen self.old) k (rated_station self.old.station self.old.clock rate_bps)) (seen self.new) lines.old lines.new }
+        requires { Remembered self.old.inflated self.old.station }
+        ensures leaves { Leaves (rated (seen self.old) k (rated_station self.old.station self.old.clock rate_bps)) (seen self.new) lines.old lines.new }
+        ensures remembered { Remembered self.new.inflated self.new.station }
     {
         match self.station.set_rate(self.clock, rate_bps) {
             Ok(()) => self.put_budgets(k, lines),
@@ -222,6 +254,7 @@ fn play_tape(tape: &[u8], lines: &mut Lines) -> Result<(), Refusal>
                 station,
                 clock: 0,
                 pool: &mut pool,
+                inflated: None,
             };
             player.play_all(tape, lines);
             Ok(())

@@ -1,8 +1,8 @@
 // The lines that a tape's run prints, put into a lent buffer one byte after the other; what lies beyond its end is lost.
 #![tactic(auto, using(crate::proofs::Texts::text_steps), unfolding(crate::specs::Text::fields_text, crate::specs::Text::update_text, crate::specs::Text::each_text, crate::specs::Text::updates_text, crate::specs::Text::line_text))]
 
-ghost use Rattle.std.specs.Prelude.{◌≡◌, [], ◌∷◌};
-ghost use Rattle.tape.specs.Text.{lines_in, added, decimal, marked, header, fields_text, update_text, each_text, updates_text, line_text};
+ghost use Rattle.std.specs.Prelude.{◌≡◌, [], ◌∷◌, length};
+ghost use Rattle.tape.specs.Text.{lines_in, written, ended, added, decimal, marked, header, fields_text, update_text, each_text, updates_text, line_text};
 
 use config::config::Priority;
 use control::budget_allocator::WriterInfo;
@@ -27,6 +27,21 @@ pub enum Fields {
     },
     Empty,
     Wait(u64),
+}
+
+// A text put into a buffer from a place on, byte after byte, as far as there is room. Told is the place behind it.
+fn put_at(bytes: &mut [u8], at: usize, text: &[u8]) -> usize
+    ensures bytes_after { bytes.new ≡ written bytes.old at text.now }
+    ensures place_after { result ≡ ended (length bytes.old) at (length text.now) }
+{
+    let mut end = at;
+    for byte in text {
+        if end < bytes.len() {
+            bytes[end] = *byte;
+            end += 1;
+        }
+    }
+    end
 }
 
 // A lent buffer, and how many of its bytes are lines.
@@ -63,13 +78,12 @@ impl<'a> Lines<'a> {
         }
     }
 
-    // A text, byte after byte.
+    // A text, byte after byte: the end is read once and written once.
+    #[tactic(auto, unfolding(crate::specs::Text::added))]
     fn put_text(&mut self, text: &[u8])
         ensures { self.new ≡ added self.old text.now }
     {
-        for byte in text {
-            self.put_byte(*byte);
-        }
+        self.end = put_at(self.bytes, self.end, text);
     }
 
     // A number in decimal.
@@ -142,6 +156,7 @@ impl<'a> Lines<'a> {
 
     // The line of a word: its index, its answer and its fields.
     // Stays: [1] what is printed is the number, which a refusal, a fate and an accepted call each give (`Numbered`).
+    #[inline(always)]
     pub fn put_line(&mut self, index: usize, answer: u8, fields: Fields)
         ensures { self.new ≡ added self.old (line_text index answer (fields_text fields)) }
     {
