@@ -171,6 +171,7 @@ impl ControllerCore {
     }
 
     // An inflated peer reaches the scorer at a tick.
+    #[inline(always)]
     fn note_inflated(&mut self, inflated: bool)
         ensures { self.new ≡ on_inflated self.old inflated }
     {
@@ -180,6 +181,7 @@ impl ControllerCore {
     }
 
     // After a second a NACK window closes; one above its threshold reaches the scorer as a single NACK.
+    #[inline(always)]
     fn update_nack_rate(&mut self, threshold: u32, time: u64)
         ensures { self.new ≡ on_window self.old threshold time }
     {
@@ -196,20 +198,27 @@ impl ControllerCore {
     }
 
     // The scorer's tick, and what it asks of the rate; whether that changed.
-    fn steer(&mut self, config: ControllerConfig, time: u64) -> bool
-        ensures { (self.new, result) ≡ steered self.old config time }
+    #[inline(always)]
+    fn steer(&mut self, config: &ControllerConfig, time: u64) -> bool
+        ensures { (self.new, result) ≡ steered self.old config.now time }
     {
-        let (scorer, action) = self.scorer.tick(config.scorer, time);
-        self.scorer = scorer;
-        let (rated, changed) = self.rate_controller.apply_action(config.rate, time, action);
-        self.rate_controller = rated;
-        self.metrics = self.metrics.record_change(changed, rated.rate());
+        let action = self.scorer.tick_in_place(&config.scorer, time);
+        let changed = self.rate_controller.apply_in_place(&config.rate, time, action);
+        self.metrics = self.metrics.record_change(changed, self.rate());
         changed
     }
 
     // A tick on all but the tables, and whether the rate changed; `inflated` tells whether a peer is.
     pub fn tick(&mut self, config: ControllerConfig, time: u64, inflated: bool) -> bool
         ensures { (self.new, result) ≡ core_ticked self.old config time inflated }
+    {
+        self.tick_by(&config, time, inflated)
+    }
+
+    // The same by settings that are lent.
+    #[inline(always)]
+    fn tick_by(&mut self, config: &ControllerConfig, time: u64, inflated: bool) -> bool
+        ensures { (self.new, result) ≡ core_ticked self.old config.now time inflated }
     {
         if !config.enabled {
             return false;
@@ -373,14 +382,15 @@ impl CongestionController {
         ensures { (self.new, result) ≡ controller_ticked self.old config time }
     {
         let inflated = self.tracker.any_inflated();
-        self.tick_told(config, time, inflated)
+        self.tick_told(&config, time, inflated)
     }
 
-    // The same for a caller that knows whether a peer's round-trip time is inflated.
-    pub fn tick_told(&mut self, config: ControllerConfig, time: u64, inflated: bool) -> bool
-        ensures { (self.new, result) ≡ controller_ticked_by self.old config time inflated }
+    // The same for a caller that knows whether a peer's round-trip time is inflated, by settings that are lent.
+    #[inline(always)]
+    pub fn tick_told(&mut self, config: &ControllerConfig, time: u64, inflated: bool) -> bool
+        ensures { (self.new, result) ≡ controller_ticked_by self.old config.now time inflated }
     {
-        let changed = self.core.tick(config, time, inflated);
+        let changed = self.core.tick_by(config, time, inflated);
         if changed {
             self.allocator
                 .reallocate(config.allocation, self.core.rate());

@@ -139,53 +139,63 @@ impl RateController {
 
     // What the scorer asks for. Told: whether the rate changed.
     pub fn apply_action(
-        self,
+        mut self,
         params: RateParams,
         time: u64,
         action: CongestionAction,
     ) -> (RateController, bool)
         ensures { result ≡ applied self params time action }
     {
+        let changed = self.apply_in_place(&params, time, action);
+        (self, changed)
+    }
+
+    // The same in its place: where nothing is asked for, nothing is read or written.
+    #[inline(always)]
+    pub(crate) fn apply_in_place(
+        &mut self,
+        params: &RateParams,
+        time: u64,
+        action: CongestionAction,
+    ) -> bool
+        ensures { (self.new, result) ≡ applied self.old params.now time action }
+    {
         let old = self.current_rate;
         match action {
-            CongestionAction::None => (self, false),
+            CongestionAction::None => false,
             CongestionAction::Increase => {
                 let rate = old.saturating_add(params.ai_step).min(params.max_rate);
-                self.changed_to(time, rate, self.metrics.gained(old, rate))
+                self.change_to(time, rate, self.metrics.gained(old, rate))
             }
             CongestionAction::DecreaseSoft => {
                 let rate = decrease(old, params.md_soft, params.min_rate);
                 let mut metrics = self.metrics.lost(old, rate);
                 metrics.decreases_soft = metrics.decreases_soft.saturating_add(1);
-                self.changed_to(time, rate, metrics)
+                self.change_to(time, rate, metrics)
             }
             CongestionAction::DecreaseHard => {
                 let rate = decrease(old, params.md_hard, params.min_rate);
                 let mut metrics = self.metrics.lost(old, rate);
                 metrics.decreases_hard = metrics.decreases_hard.saturating_add(1);
-                self.changed_to(time, rate, metrics)
+                self.change_to(time, rate, metrics)
             }
         }
     }
 
     // The new rate with its metrics, unless it is the old one.
-    fn changed_to(
-        self,
-        time: u64,
-        rate: u32,
-        metrics: RateControllerMetrics,
-    ) -> (RateController, bool)
-        ensures { result ≡ changed_to self time rate metrics }
+    #[inline(always)]
+    fn change_to(&mut self, time: u64, rate: u32, metrics: RateControllerMetrics) -> bool
+        ensures { (self.new, result) ≡ changed_to self.old time rate metrics }
     {
-        if rate == self.current_rate {
-            return (self, false);
+        let changes = rate != self.current_rate;
+        if changes {
+            *self = RateController {
+                current_rate: rate,
+                last_change: time,
+                metrics,
+            };
         }
-        let changed = RateController {
-            current_rate: rate,
-            last_change: time,
-            metrics,
-        };
-        (changed, true)
+        changes
     }
 
     // A rate that is given, held to the range.

@@ -108,8 +108,9 @@ fn loss_impulse(losses: u32) -> f32
 
 impl PendingSignals {
     // What the pending signals add to the score: each kind once, however often it came, but for losses.
-    fn impulse(self, config: ScorerConfig) -> f32
-        ensures { result ≡ impulse_of config self }
+    #[inline(always)]
+    fn impulse(self, config: &ScorerConfig) -> f32
+        ensures { result ≡ impulse_of config.now self }
     {
         let i = added_if(self.eagain_count > 0, 0.0, config.eagain_impulse);
         let i = added_if(self.rtt_inflated, i, config.rtt_impulse);
@@ -142,28 +143,22 @@ pub struct ScorerMetrics {
 
 impl ScorerMetrics {
     // A tick, and the score that it left.
-    fn tick(self, score: f32) -> ScorerMetrics
-        ensures { result ≡ tick_measured self score }
+    #[inline(always)]
+    fn tick(&mut self, score: f32)
+        ensures { self.new ≡ tick_measured self.old score }
     {
-        ScorerMetrics {
-            ticks: self.ticks.saturating_add(1),
-            peak_score: if score > self.peak_score {
-                score
-            } else {
-                self.peak_score
-            },
-            ..self
+        self.ticks = self.ticks.saturating_add(1);
+        if score > self.peak_score {
+            self.peak_score = score;
         }
     }
 
     // One tick's interval more in the congested state.
-    fn congested_for(self, interval: u64) -> ScorerMetrics
-        ensures { result ≡ congested_for self interval }
+    #[inline(always)]
+    fn congested_for(&mut self, interval: u64)
+        ensures { self.new ≡ congested_for self.old interval }
     {
-        ScorerMetrics {
-            congested_duration: self.congested_duration.saturating_add(interval),
-            ..self
-        }
+        self.congested_duration = self.congested_duration.saturating_add(interval);
     }
 }
 
@@ -242,30 +237,37 @@ impl CongestionScorer {
     }
 
     // The score decays and takes what is pending; the state follows. Told: what the scorer asks for.
-    #[tactic(auto, unfolding(crate::specs::Scorer::ticked))]
-    pub fn tick(self, config: ScorerConfig, time: u64) -> (CongestionScorer, CongestionAction)
+    pub fn tick(mut self, config: ScorerConfig, time: u64) -> (CongestionScorer, CongestionAction)
         ensures { result ≡ ticked self config time }
     {
-        let impulse = self.pending.impulse(config);
-        let score = clamp_f32(self.score * config.decay + impulse, 0.0, 100.0);
-        let scorer = CongestionScorer {
-            score,
-            last_tick: time,
-            pending: PendingSignals::default(),
-            metrics: self.metrics.tick(score),
-            ..self
-        };
-        scorer.evaluate_state(config, time, self.pending.eagain_count > 0)
+        let action = self.tick_in_place(&config, time);
+        (self, action)
     }
 
-    // Stays: [5] what a tick hands from step to step; as a struct it would be made in `tick` and taken apart in each.
+    // The same in its place: what a tick leaves as it was is neither read nor written.
+    #[inline(always)]
+    #[tactic(auto, unfolding(crate::specs::Scorer::ticked))]
+    pub(crate) fn tick_in_place(&mut self, config: &ScorerConfig, time: u64) -> CongestionAction
+        ensures { (self.new, result) ≡ ticked self.old config.now time }
+    {
+        let impulse = self.pending.impulse(config);
+        let had_eagain = self.pending.eagain_count > 0;
+        self.score = clamp_f32(self.score * config.decay + impulse, 0.0, 100.0);
+        self.last_tick = time;
+        self.pending = PendingSignals::default();
+        self.metrics.tick(self.score);
+        self.evaluate_state(config, time, had_eagain)
+    }
+
+    // Stays: [5] what a tick hands from step to step; as a struct it would be made in `tick_in_place` and taken apart in each.
+    #[inline(always)]
     fn evaluate_state(
-        self,
-        config: ScorerConfig,
+        &mut self,
+        config: &ScorerConfig,
         time: u64,
         had_eagain: bool,
-    ) -> (CongestionScorer, CongestionAction)
-        ensures { result ≡ evaluated self config time had_eagain }
+    ) -> CongestionAction
+        ensures { (self.new, result) ≡ evaluated self.old config.now time had_eagain }
     {
         match self.phase.state {
             ScorerState::Stable => self.evaluate_stable(config, time, had_eagain),
@@ -274,33 +276,33 @@ impl CongestionScorer {
     }
 
     // A score at the threshold is congestion; else the rate may grow, out of cooldown and after a stable window.
+    #[inline(always)]
     fn evaluate_stable(
-        self,
-        config: ScorerConfig,
+        &mut self,
+        config: &ScorerConfig,
         time: u64,
         had_eagain: bool,
-    ) -> (CongestionScorer, CongestionAction)
-        ensures { result ≡ evaluated_stable self config time had_eagain }
+    ) -> CongestionAction
+        ensures { (self.new, result) ≡ evaluated_stable self.old config.now time had_eagain }
     {
         if self.score >= config.decrease_threshold {
             return self.enter_congested(config, time, had_eagain);
         }
         let cooling = self.phase.in_cooldown(time);
-        let action = if !cooling && self.phase.can_increase(config.stable_window, time) {
+        if !cooling && self.phase.can_increase(config.stable_window, time) {
             CongestionAction::Increase
         } else {
             CongestionAction::None
-        };
-        (self, action)
+        }
     }
 
     fn enter_congested(
-        mut self,
-        config: ScorerConfig,
+        &mut self,
+        config: &ScorerConfig,
         time: u64,
         had_eagain: bool,
-    ) -> (CongestionScorer, CongestionAction)
-        ensures { result ≡ congested_at self config time had_eagain }
+    ) -> CongestionAction
+        ensures { (self.new, result) ≡ congested_at self.old config.now time had_eagain }
     {
         self.phase = Phase {
             state: ScorerState::Congested,
@@ -308,30 +310,25 @@ impl CongestionScorer {
             stable_since: None,
         };
         self.metrics.congestion_events = self.metrics.congestion_events.saturating_add(1);
-        let action = if config.eagain_is_hard && had_eagain {
+        if config.eagain_is_hard && had_eagain {
             CongestionAction::DecreaseHard
         } else {
             CongestionAction::DecreaseSoft
-        };
-        (self, action)
+        }
     }
 
     // Recovery comes out of cooldown, at a score no more than the increase threshold and the hysteresis band.
-    fn evaluate_congested(
-        mut self,
-        config: ScorerConfig,
-        time: u64,
-    ) -> (CongestionScorer, CongestionAction)
-        ensures { result ≡ evaluated_congested self config time }
+    fn evaluate_congested(&mut self, config: &ScorerConfig, time: u64) -> CongestionAction
+        ensures { (self.new, result) ≡ evaluated_congested self.old config.now time }
     {
-        self.metrics = self.metrics.congested_for(config.tick_interval);
+        self.metrics.congested_for(config.tick_interval);
         let cooling = self.phase.in_cooldown(time);
         if !cooling && self.score <= config.increase_threshold + config.hysteresis {
             self.phase.state = ScorerState::Stable;
             self.phase.stable_since = Some(time);
             self.metrics.recovery_events = self.metrics.recovery_events.saturating_add(1);
         }
-        (self, CongestionAction::None)
+        CongestionAction::None
     }
 
     pub fn score(self) -> f32
@@ -372,6 +369,7 @@ impl CongestionScorer {
 }
 
 impl Phase {
+    #[inline(always)]
     fn in_cooldown(self, time: u64) -> bool
         ensures { result ≡ in_cooldown self time }
     {
@@ -379,6 +377,7 @@ impl Phase {
     }
 
     // Stable for a whole window.
+    #[inline(always)]
     fn can_increase(self, window: u64, time: u64) -> bool
         ensures { result ≡ can_increase self window time }
     {

@@ -15,7 +15,6 @@ use pacing::writer_pacer_alone;
 use pacing::writer_pacer_alone::ConfiguredPacer;
 use queue::coalescing::hash_bytes;
 use queue::entry::InstanceKey;
-use std::mem;
 
 #[derive(Clone, Copy)]
 pub(crate) enum PacerOperation {
@@ -68,7 +67,7 @@ pub(crate) fn first() -> Result<Alone<ConfiguredPacer>, Refusal> {
     writer_pacer_alone::with_rate(0, narrow(), 1)
 }
 
-// The calls take the pacer by value: while one runs, a first pacer stands in for it.
+// The calls take the pacer by value and give it back.
 impl Operation for PacerOperation {
     type State = Alone<ConfiguredPacer>;
 
@@ -87,30 +86,26 @@ impl Operation for PacerOperation {
             }
             // The bytes of the buffer go into the lent part of the pool.
             Self::Enqueue { time, class } => {
-                let moved = mem::replace(alone, first()?);
                 let (pool, bytes) = (desk.pool.lent_mut(), desk.bytes.as_slice());
-                let left = writer_pacer_alone::enqueue(moved, time, pool, class, bytes);
+                let left = writer_pacer_alone::enqueue(*alone, time, pool, class, bytes);
                 taken(left, alone).number()
             }
             Self::EnqueueP2Keyed { time, key } => {
-                let moved = mem::replace(alone, first()?);
                 let (pool, bytes) = (desk.pool.lent_mut(), desk.bytes.as_slice());
-                let left = writer_pacer_alone::enqueue_p2_keyed(moved, time, pool, key, bytes);
+                let left = writer_pacer_alone::enqueue_p2_keyed(*alone, time, pool, key, bytes);
                 taken(left, alone).number()
             }
             Self::TrySend { time } => {
-                let moved = mem::replace(alone, first()?);
-                let left = writer_pacer_alone::try_send(moved, time, desk.pool.lent());
+                let left = writer_pacer_alone::try_send(*alone, time, desk.pool.lent());
                 let tried = taken(left, alone);
                 action = tried.unwrap_or(SendAction::Empty);
                 tried.number()
             }
             Self::SetRate { time, rate } => {
-                let moved = mem::replace(alone, first()?);
-                taken(writer_pacer_alone::set_rate(moved, time, rate), alone).number()
+                taken(writer_pacer_alone::set_rate(*alone, time, rate), alone).number()
             }
             Self::Calls(calls) => {
-                let resumed = mem::replace(alone, first()?).resumed(calls);
+                let resumed = alone.resumed(calls);
                 remade::<_, ()>(resumed, alone).number()
             }
         };

@@ -11,7 +11,6 @@ use queue::coalescing::{CoalescingQueue, hash_bytes};
 use queue::coalescing_alone;
 use queue::coalescing_alone::{Sample, sample_bytes};
 use queue::entry::InstanceKey;
-use std::mem;
 
 #[derive(Clone, Copy)]
 pub(crate) enum QueueOperation {
@@ -42,7 +41,7 @@ pub(crate) fn first() -> Result<Alone<CoalescingQueue<128>>, Refusal> {
     coalescing_alone::new(1)
 }
 
-// The calls take the queue by value: while one runs, a first queue stands in for it.
+// The calls take the queue by value and give it back.
 impl Operation for QueueOperation {
     type State = Alone<CoalescingQueue<128>>;
 
@@ -56,17 +55,16 @@ impl Operation for QueueOperation {
             Self::New { limit } => remade(coalescing_alone::new(limit)?, alone),
             // The bytes of the buffer go into the lent part of the pool.
             Self::Insert(key) => {
-                let moved = mem::replace(alone, first()?);
                 let (pool, bytes) = (desk.pool.lent_mut(), desk.bytes.as_slice());
-                let left = coalescing_alone::insert(moved, pool, key, bytes);
+                let left = coalescing_alone::insert(*alone, pool, key, bytes);
                 taken(left, alone).and(Ok(None))
             }
             Self::PopFront => {
-                let moved = mem::replace(alone, first()?);
-                taken(coalescing_alone::pop_front(moved, desk.pool.lent()), alone)
+                let left = coalescing_alone::pop_front(*alone, desk.pool.lent());
+                taken(left, alone)
             }
             Self::PeekFront => Ok(coalescing_alone::peek_front(alone)),
-            Self::Calls(calls) => remade(mem::replace(alone, first()?).resumed(calls), alone),
+            Self::Calls(calls) => remade(alone.resumed(calls), alone),
         };
         // A front that stays is read off the whole pool.
         let readable = match self {

@@ -18,7 +18,6 @@ use queue::entry::InstanceKey;
 use queue::pool;
 use queue::pool::Limits;
 use station::station::{Station, sent_bytes};
-use std::mem;
 
 #[derive(Clone, Copy)]
 pub(crate) enum StationOperation {
@@ -114,9 +113,7 @@ impl Operation for StationOperation {
             Self::SetRate { time, rate } => Outcome::rate(station.set_rate(time, rate)),
             Self::HandIn(handed) => hand_in(station, desk, handed),
             Self::Send { time, i } => return Ok(send(station, desk, time, i, line)),
-            Self::Calls(calls) => {
-                Outcome::remade(mem::replace(station, first()?).resumed(calls), station)
-            }
+            Self::Calls(calls) => Outcome::remade(station.resumed(calls), station),
             Self::Place { i } => return Ok(line.with(Place::at(station, i))),
             Self::Controller => return Ok(with_controller(line, station)),
         };

@@ -210,7 +210,7 @@ impl<const P0: usize, const P1: usize, const P2: usize> Station<P0, P1, P2> {
         self.ledger.check_timed(time)?;
         let changed = self
             .controller
-            .tick_told(self.config.controller, time, inflated);
+            .tick_told(&self.config.controller, time, inflated);
         if changed {
             self.allot(time);
         }

@@ -1,7 +1,7 @@
 -- Laws of texts put one after the other, and how long numbers and lines are. Assumes nothing.
 -- Stays: what the functions of text.rt, the runs and the bound of Bounds go by, and examples that docs/GUARANTEES.md names; of std are the lists and the digits.
 use native.Mathlib.Decide.{dec_le}
-use Rattle.std.proofs.Common.{rules, ◌≡◌, refl, sym, ◌∙◌, ℕ, zero, suc, ◌+◌, ◌*◌, ◌/◌, ◌%◌, ◌^◌, ◌≤◌, ◌<◌, min, max, Bool, true, false, cond, ltb, List, [], ◌∷◌, ◌++◌, length, drop, take, get_or, set, arith, length-append}
+use Rattle.std.proofs.Common.{rules, ◌≡◌, refl, sym, ◌∙◌, lt-ltb, ℕ, zero, suc, ◌+◌, ◌*◌, ◌/◌, ◌%◌, ◌^◌, ◌≤◌, ◌<◌, min, max, Bool, true, false, cond, ltb, List, [], ◌∷◌, ◌++◌, length, drop, take, get_or, set, arith, length-append}
 use Rattle.std.proofs.Math.Nat.{add-zero}
 use Rattle.std.proofs.Math.Seq.{set_out, sets, length-sets, sets-eq, take-suc}
 use native.Mathlib.Numerals.{add-one}
@@ -75,6 +75,14 @@ unfolding added written ended
 added_nothing ls =
     let stays : max ls.end (min (ls.end + 0) (length ls.bytes.now)) ≡ ls.end = omega arith in
     rw stays
+
+-- a text put into a buffer from a place on, and the place behind it
+pub added_from :
+    (bytes : MutBor (List ℕ)) (at : ℕ) (text : List ℕ)
+    → added (record { bytes = bytes; end = at }) text
+    ≡ record { bytes = record bytes { now = written bytes.now at text }; end = ended (length bytes.now) at (length text) }
+unfolding added
+added_from bytes at text = refl
 
 -- ---- a byte
 
@@ -150,11 +158,20 @@ appends = search rules
 pub decimal_is : (n : ℕ) → n < 2 ^ 64 → fmt.decimal n ≡ decimal n
 decimal_is n h = sym (decimal_from_appends decimal_by appends 20 n h (length-decimal-le 20 n (omega arith) (omega arith) h))
 
+-- a number below 10 is a digit
+pub decimal_digit : (n : ℕ) → n < 10 → decimal n ≡ glyph n ∷ []
+unfolding decimal_by
+decimal_digit n h = rw (lt-ltb n 10 h)
+
 -- ---- what the writers of lines go by
+
+pub ruleset number_steps = (common_steps, added_nothing, added_both, decimal_is, decimal_digit)
 
 pub ruleset put_steps = (common_steps, added_inside, added_beyond)
 
 pub ruleset text_steps = (common_steps, added_nothing, added_both)
+
+pub ruleset line_steps = (common_steps, added_both, added_from)
 
 -- ---- how long numbers and lines are
 

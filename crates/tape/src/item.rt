@@ -105,6 +105,7 @@ pub fn words_of(bytes: usize) -> usize
     bytes.div_ceil(WORD)
 }
 
+#[inline(always)]
 fn register_of(value: u32) -> Item
     ensures { result ≡ register_of value }
 {
@@ -119,6 +120,7 @@ fn register_of(value: u32) -> Item
 
 // The words of a key.
 // Stays: [4] 0 and 4 do not number the classes: they are lengths in words, which the format gives.
+#[inline(always)]
 fn key_words(class: Priority) -> usize
     ensures value { result ≡ key_words class }
     ensures upper_bound { result ≤ 4 }
@@ -130,6 +132,7 @@ fn key_words(class: Priority) -> usize
 }
 
 // The words of a hand-in: the first, the key's, and the bytes padded to a word.
+#[inline(always)]
 fn hand_in_words(class: Priority, length: u16) -> usize
     ensures value { result ≡ hand_in_words class length }
     ensures upper_bound { result ≤ 16389 }
@@ -138,6 +141,7 @@ fn hand_in_words(class: Priority, length: u16) -> usize
 }
 
 // The words that belong to an item.
+#[inline(always)]
 pub fn words_taken(item: Item) -> usize
     ensures value { result ≡ takes item }
     ensures lower_bound { (1 ≤ result) × (result ≤ 16389) }
@@ -165,6 +169,7 @@ pub struct Words<'a> {
 
 impl<'a> Words<'a> {
     // How many there are; a last one that is cut short does not count.
+    #[inline(always)]
     fn count(&self) -> usize
         ensures { result ≡ words_from self.now.tape.now self.now.first }
     {
@@ -172,6 +177,7 @@ impl<'a> Words<'a> {
     }
 
     // The word so many past the first; 0 where it is not whole.
+    #[inline(always)]
     fn word(&self, past: u8) -> u32
         ensures { result ≡ word_at self.now.tape.now (self.now.first + past) }
     {
@@ -184,6 +190,7 @@ impl<'a> Words<'a> {
     }
 
     // An item of so many words, broken where it is cut short.
+    #[inline(always)]
     fn whole(&self, words: usize, item: Item) -> Item
         ensures { result ≡ whole self.now.tape.now self.now.first words item }
     {
@@ -194,6 +201,7 @@ impl<'a> Words<'a> {
         }
     }
 
+    #[inline(always)]
     fn rtt(&self, value: u32) -> Item
         ensures { result ≡ rtt_of self.now.tape.now self.now.first value }
     {
@@ -206,6 +214,7 @@ impl<'a> Words<'a> {
 
     // A signal, by its kind.
     // Stays: [1] here the format's number becomes an `Item`; an enum of signals in between would list the same four cases once more.
+    #[inline(always)]
     fn signal(&self, value: u32) -> Item
         ensures { result ≡ signal_of self.now.tape.now self.now.first value }
     {
@@ -217,6 +226,7 @@ impl<'a> Words<'a> {
         }
     }
 
+    #[inline(always)]
     fn hand_in(&self, value: u32) -> Item
         ensures { result ≡ hand_in_of self.now.tape.now self.now.first value }
     {
@@ -236,6 +246,7 @@ impl<'a> Words<'a> {
 
     // The item whose first word this is, by its kind.
     // Stays: [1] here the format's number becomes an `Item`; an enum of kinds in between would list the same eight cases once more.
+    #[inline(always)]
     fn item_of(&self, word: u32) -> Item
         ensures { result ≡ item_of self.now.tape.now self.now.first word }
     {
@@ -254,12 +265,16 @@ impl<'a> Words<'a> {
     }
 
     // The item that begins here.
-    #[tactic(auto, using(crate::proofs::Items::first_word), unfolding(crate::specs::Item::item_at))]
+    #[inline(always)]
+    #[tactic(auto, using(crate::proofs::Items::first_word), unfolding(crate::specs::Item::whole, crate::specs::Item::item_at))]
     fn item(&self) -> Item
         ensures { result ≡ item_at self.now.tape.now self.now.first }
     {
-        let item = self.item_of(self.word(0));
-        self.whole(1, item)
+        if 1 <= self.count() {
+            self.item_of(self.word(0))
+        } else {
+            Item::Broken
+        }
     }
 
     // The key of the hand-in that begins here; P0 and P1 have none.

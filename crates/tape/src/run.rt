@@ -93,6 +93,7 @@ fn send_from(
 impl Player<'_> {
     // Every item of a tape, in turn; of the peers nothing is remembered at first.
     // Stays: [5] each of these clauses names another text; that it stands behind the lines before is what `added` says.
+    #[inline(never)]
     #[tactic(auto, using(crate::proofs::Runs::told_steps))]
     fn play_all(&mut self, tape: &[u8], lines: &mut Lines)
         ensures { lines.new ≡ added lines.old (text_of (lines_of tape.now (seen self.old) (items_of tape.now))) }

@@ -14,6 +14,9 @@ const COLON: u8 = 58;
 
 const LINE_END: u8 = 10;
 
+// The glyph of digit 0.
+const ZERO: u8 = 48;
+
 // What a line tells after the answer number.
 #[derive(Clone, Copy, Debug, PartialEq, Eq)]
 pub enum Fields {
@@ -68,6 +71,7 @@ impl<'a> Lines<'a> {
 
     // A byte more; where there is no room nothing is written.
     // Stays: [5] each of these clauses names another text; that it stands behind the lines before is what `added` says.
+    #[inline(always)]
     #[tactic(auto, using(crate::proofs::Texts::put_steps))]
     fn put_byte(&mut self, byte: u8)
         ensures { self.new ≡ added self.old (byte ∷ []) }
@@ -79,6 +83,7 @@ impl<'a> Lines<'a> {
     }
 
     // A text, byte after byte: the end is read once and written once.
+    #[inline(always)]
     #[tactic(auto, unfolding(crate::specs::Text::added))]
     fn put_text(&mut self, text: &[u8])
         ensures { self.new ≡ added self.old text.now }
@@ -86,16 +91,21 @@ impl<'a> Lines<'a> {
         self.end = put_at(self.bytes, self.end, text);
     }
 
-    // A number in decimal.
-    #[tactic(auto, using(crate::proofs::Texts::decimal_is))]
+    // A number in decimal; one of a single digit, as answers and most fields are, needs no digits made.
+    #[inline(always)]
+    #[tactic(auto, using(crate::proofs::Texts::number_steps))]
     fn put_number(&mut self, n: u64)
         ensures { self.new ≡ added self.old (decimal n) }
     {
+        if n < 10 {
+            return self.put_byte(ZERO + n as u8);
+        }
         let mut digits = Buffer::new();
         self.put_text(digits.format(n).as_bytes());
     }
 
     // A number with a mark before it.
+    #[inline(always)]
     fn put_marked(&mut self, mark: u8, n: u64)
         ensures { self.new ≡ added self.old (marked mark n) }
     {
@@ -111,6 +121,7 @@ impl<'a> Lines<'a> {
     }
 
     // A line's fields, each with a space before it.
+    #[inline(always)]
     fn put_fields(&mut self, fields: Fields)
         ensures { self.new ≡ added self.old (fields_text fields) }
     {
@@ -157,13 +168,11 @@ impl<'a> Lines<'a> {
     // The line of a word: its index, its answer and its fields.
     // Stays: [1] what is printed is the number, which a refusal, a fate and an accepted call each give (`Numbered`).
     #[inline(always)]
+    #[tactic(auto, unfolding(crate::specs::Text::added))]
     pub fn put_line(&mut self, index: usize, answer: u8, fields: Fields)
         ensures { self.new ≡ added self.old (line_text index answer (fields_text fields)) }
     {
-        self.put_number(index as u64);
-        self.put_marked(SPACE, u64::from(answer));
-        self.put_fields(fields);
-        self.put_byte(LINE_END);
+        self.end = line_at(self.bytes, self.end, index, answer, fields);
     }
 
     // The line of an accepted word that shared the rate out anew: how many writers there are, and each one's update.
@@ -176,4 +185,19 @@ impl<'a> Lines<'a> {
         self.put_each(writers);
         self.put_byte(LINE_END);
     }
+}
+
+// The line of a word put from a place on. Told is the place behind it: it is kept beside the buffer, and so read once and written once.
+#[inline(always)]
+#[tactic(auto, using(crate::proofs::Texts::line_steps), unfolding(crate::specs::Text::line_text))]
+fn line_at(bytes: &mut [u8], at: usize, index: usize, answer: u8, fields: Fields) -> usize
+    ensures bytes_after { bytes.new ≡ written bytes.old at (line_text index answer (fields_text fields)) }
+    ensures place_after { result ≡ ended (length bytes.old) at (length (line_text index answer (fields_text fields))) }
+{
+    let mut line = Lines { bytes, end: at };
+    line.put_number(index as u64);
+    line.put_marked(SPACE, u64::from(answer));
+    line.put_fields(fields);
+    line.put_byte(LINE_END);
+    line.end
 }
