@@ -127,6 +127,10 @@ no_counts =
 abbrev pub new_queues : Limits → Queues
 new_queues m = queues_of (empty m.p0) (empty m.p1) (new_queue m.p2)
 
+-- one slot of each class, for which any queues have room
+abbrev pub least_limits : Limits
+least_limits = record { p0 = 1; p1 = 1; p2 = 1 }
+
 -- the number of slots of each class
 abbrev pub limits_in : Queues → Limits
 limits_in q = record { p0 = q.p0.limit; p1 = q.p1.limit; p2 = q.p2.waiting.limit }

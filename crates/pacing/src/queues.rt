@@ -1,6 +1,6 @@
 // The three queues of a pacer, one for each class.
 ghost use Rattle.std.specs.Prelude.{◌≡◌, ◌<◌, ltb, slice_get};
-ghost use Rattle.pacing.specs.WriterPacer.{Queues, queues_made, queues_restarted, waiting_in, entries_in, slot_in, front_of, popped_in, limits_in, fits, keyless_entry};
+ghost use Rattle.pacing.specs.WriterPacer.{Queues, new_queues, least_limits, queues_made, queues_restarted, waiting_in, entries_in, slot_in, front_of, popped_in, limits_in, fits, keyless_entry};
 
 use config::config::Priority;
 use config::per_class::PerClass;
@@ -57,6 +57,15 @@ impl<const N0: usize, const N1: usize, const N2: usize> Queues<N0, N1, N2> {
             self.p1.restart(limits.p1);
             self.p2.restart(limits.p2);
         }
+    }
+
+    // Empty again with one slot of each class, for which there is always room.
+    pub(crate) fn restart_with_one_slot_each(&mut self)
+        ensures { self.new ≡ new_queues least_limits }
+    {
+        self.p0.restart_with_one_slot();
+        self.p1.restart_with_one_slot();
+        self.p2.restart_with_one_slot();
     }
 
     // How many records of a class wait.

@@ -1,7 +1,7 @@
 // The writer pacer: three queues in the order of their class, and a token bucket that paces what is not urgent. Of a record it reads the length;
 // `send_action` has its bytes.
 ghost use Rattle.std.specs.Prelude.{◌≡◌, ◌<◌, length, slice_get};
-ghost use Rattle.pacing.specs.WriterPacer.{Pacer, no_pacer_config, pacer_config_of, pacer_of, burst_of, fits, made, limits_held, made_in, restarted, numbered, enqueue, handed_in, waiting_in, entries_in, slot_in, limits_in, gone, attempt_p0, paid, waited, limited, attempt, sent_from, sent_if, rate_set, metrics_in};
+ghost use Rattle.pacing.specs.WriterPacer.{Pacer, no_pacer_config, pacer_config_of, pacer_of, burst_of, fits, made, least_limits, limits_held, made_in, restarted, numbered, enqueue, handed_in, waiting_in, entries_in, slot_in, limits_in, gone, attempt_p0, paid, waited, limited, attempt, sent_from, sent_if, rate_set, metrics_in};
 ghost use Rattle.queue.specs.Coalescing.{stats_in};
 ghost use Rattle.queue.specs.Entries.{entry_of};
 ghost use Rattle.queue.specs.Waiting.{joined, kept_in};
@@ -162,6 +162,20 @@ impl<const N0: usize, const N1: usize, const N2: usize> WriterPacer<N0, N1, N2> 
             self.next_sequence = 0;
             self.tokens = TokenBucket::new(time, rate_bps, burst(rate_bps));
             self.counts = PacerCounts::default();
+        }
+    }
+
+    // A new pacer of the same type at time 0, with queues of one slot and no rate, for which there is always room.
+    pub fn blank(&self) -> Self
+        ensures { result ≡ made 0 least_limits 0 }
+    {
+        let mut queues = self.queues;
+        queues.restart_with_one_slot_each();
+        WriterPacer {
+            queues,
+            next_sequence: 0,
+            tokens: TokenBucket::new(0, 0, burst(0)),
+            counts: PacerCounts::default(),
         }
     }
 

@@ -16,6 +16,10 @@ pub held_fits : (N limit : ℕ) → 1 ≤ N → N ≤ 512 → limit_fits N (limi
 held_fits N limit some h =
     rw (le-leb 1 (min (max limit 1) N) (omega (arith, some)), le-leb (min (max limit 1) N) N (omega arith), le-leb N 512 h) refl
 
+-- a queue that has a slot, as its type's invariant says, has room for one
+pub one_fits : (N h L : ℕ) → h < L → L ≤ N → N ≤ 512 → limit_fits N 1 ≡ true
+one_fits N h L head wide h512 = rw (le-leb 1 N (omega (arith, head, wide)), le-leb N 512 h512) refl
+
 module _ {E : Type 0} where
   -- ---- the list alone
 

@@ -133,6 +133,17 @@ impl<const N: usize> CoalescingQueue<N> {
         }
     }
 
+    // New again with one slot, for which there is always room.
+    pub fn restart_with_one_slot(&mut self)
+        ensures { self.new ≡ new_queue 1 }
+    {
+        self.queue.restart_with_one_slot();
+        self.next_sequence = 0;
+        self.coalesced = 0;
+        self.dropped = 0;
+        self.total_bytes = 0;
+    }
+
     // How many places behind the oldest the first sample under a key waits.
     pub fn find(&self, key: InstanceKey) -> Option<u16>
         ensures { result ≡ found self.now key }

@@ -95,6 +95,15 @@ impl<E: Blank, const N: usize> Queue<E, N> {
         }
     }
 
+    // Empty again with one slot, for which there is always room: the limit, which is read for what the type says of it, is at least 1 and at most N.
+    #[tactic(auto, using(crate::proofs::Queues::one_fits))]
+    pub fn restart_with_one_slot(&mut self)
+        ensures { self.new ≡ empty 1 }
+    {
+        let _limit = self.limit;
+        self.restart(1);
+    }
+
     pub fn len(&self) -> u16
         ensures { result ≡ length self.now.items }
     {

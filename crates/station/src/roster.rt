@@ -167,6 +167,19 @@ impl<const P0: usize, const P1: usize, const P2: usize> Roster<P0, P1, P2> {
         }
     }
 
+    // The same by value, for every number: where there is no such place, a pacer with queues of one slot and no rate.
+    pub fn pacer_or_blank(&self, i: u8) -> WriterPacer<P0, P1, P2>
+        ensures { result ≡ (writer_at self.now i).pacer }
+    {
+        match self.writers.get(i as usize) {
+            Some(writer) => writer.pacer,
+            None => {
+                let first = &self.writers[0];
+                first.pacer.blank()
+            }
+        }
+    }
+
     // The id of the writer with a number, 0 where there is no such place.
     // Stays: [1] a public call that could not fail still can't.
     pub fn id(&self, i: u8) -> u64
