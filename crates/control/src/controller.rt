@@ -203,7 +203,9 @@ impl ControllerCore {
         ensures { (self.new, result) ≡ steered self.old config.now time }
     {
         let action = self.scorer.tick_in_place(&config.scorer, time);
-        let changed = self.rate_controller.apply_in_place(&config.rate, time, action);
+        let changed = self
+            .rate_controller
+            .apply_in_place(&config.rate, time, action);
         self.metrics = self.metrics.record_change(changed, self.rate());
         changed
     }
