@@ -93,6 +93,10 @@ no_peer = peer_of 0 (estimator_of nan nan nan 0 None)
 abbrev pub peer_at : PeerRttTracker → ℕ → Peer
 peer_at t k = get_or t.peers k no_peer
 
+-- whether the peer at a place has the id
+abbrev pub is_at : PeerRttTracker → ℕ → ℕ → Bool
+is_at t id k = eqb (peer_at t k).id id
+
 -- the first place with the id, or the number of places taken
 unfoldable pub place_of : PeerRttTracker → ℕ → ℕ
 place_of t id = first (λ (k : ℕ). eqb (peer_at t k).id id) (known_of t.count)

@@ -1,7 +1,8 @@
 // Round-trip times: an average, its variance and the least sample, for one peer and for up to 64.
-ghost use Rattle.std.specs.Prelude.{◌≡◌, ◌<◌, not};
+ghost use Rattle.std.specs.Prelude.{◌≡◌, ◌+◌, ◌<◌, ◌≤◌, ◌||◌, not};
+ghost use Rattle.numeric.specs.Search.{first};
 ghost use Rattle.config.specs.Refusal.{verdict_of};
-ghost use Rattle.signals.specs.RttEstimator.{lesser_of, new_estimator, updated, inflated, rto_of, place_of, known_of, peers_of, new_tracker, tracker_updated, full_for, any_inflated, id_at, shown_at};
+ghost use Rattle.signals.specs.RttEstimator.{lesser_of, new_estimator, updated, inflated, rto_of, is_at, place_of, known_of, peers_of, new_tracker, tracker_updated, full_for, any_inflated, id_at, shown_at};
 ghost use Rattle.signals.specs.RttEstimatorAlone.{sample_out, sample_checks};
 
 use config::ledger::Ledger;
@@ -186,15 +187,45 @@ impl PeerRttTracker {
         &self.peers[..known(self.count)]
     }
 
+    // Whether a peer stands in one of the four places from one on: all four are looked at, for one branch of a search.
+    #[inline(always)]
+    fn is_in_four(&self, place: usize, peer_id: u32) -> bool
+        requires { place + 4 ≤ 64 }
+        ensures { result ≡ (is_at self.now peer_id place || (is_at self.now peer_id (place + 1) || (is_at self.now peer_id (place + 2) || is_at self.now peer_id (place + 3)))) }
+    {
+        let peers = &self.peers;
+        (peers[place].id == peer_id)
+            | ((peers[place + 1].id == peer_id)
+                | ((peers[place + 2].id == peer_id) | (peers[place + 3].id == peer_id)))
+    }
+
+    // How many of the first n places are passed over, by fours in which the peer does not stand.
+    #[inline(always)]
+    #[tactic(auto, using(crate::proofs::Searches::place_steps))]
+    fn passed_over(&self, n: usize, peer_id: u32) -> usize
+        requires { n ≤ 64 }
+        ensures upper_bound { result ≤ n }
+        ensures none { first (is_at self.now peer_id) result ≡ result }
+    {
+        let mut place: usize = 0;
+        while place + 4 <= n && !self.is_in_four(place, peer_id) {
+            place += 4;
+        }
+        place
+    }
+
     // The place of a peer, or the number of places taken where it is not there.
     // Stays: [1] its definition (`place_of`), under theorems that pages name, gives the number of places taken where the peer is not there.
+    #[tactic(auto, using(crate::proofs::Searches::place_steps), unfolding(crate::specs::RttEstimator::place_of))]
     fn place_of(&self, peer_id: u32) -> usize
         ensures { result ≡ place_of self.now peer_id }
     {
-        self.entered()
-            .iter()
-            .position(|peer| peer.id == peer_id)
-            .unwrap_or(known(self.count))
+        let n = known(self.count);
+        let mut place = self.passed_over(n, peer_id);
+        while place < n && self.peers[place].id != peer_id {
+            place += 1;
+        }
+        place
     }
 
     // Whether a peer is not there and there is no room for it.
