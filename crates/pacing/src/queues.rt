@@ -42,8 +42,8 @@ impl<const N0: usize, const N1: usize, const N2: usize> Queues<N0, N1, N2> {
         ensures { result ≡ queues_made N0 N1 N2 limits }
     {
         Some(Queues {
-            p0: Queue::new(limits.p0)?,
-            p1: Queue::new(limits.p1)?,
+            p0: Queue::with_limit(limits.p0)?,
+            p1: Queue::with_limit(limits.p1)?,
             p2: CoalescingQueue::new(limits.p2)?,
         })
     }

@@ -9,7 +9,7 @@ use Rattle.std.specs.List.{position_from}
 use Rattle.queue.specs.Waiting.{Waiting, waiting_of, limit_fits, limit_held, first, slot_of, popped, popped_front, roomy, added, joined, next_slot, pushed_out, exchanged}
 use Rattle.queue.specs.Window.{window, IsLaid}
 use Rattle.queue.proofs.Blanks.{all_blank, blank_empty}
-use Rattle.queue.proofs.Windows.{length_window, window_at, window_left, window_joined, window_pushed_out, window_exchanged, window_parts}
+use Rattle.queue.proofs.Windows.{length_window, window_at, window_popped, window_left, window_joined, window_pushed_out, window_exchanged, window_parts}
 
 -- a limit that is held finds room
 pub held_fits : (N limit : ℕ) → 1 ≤ N → N ≤ 512 → limit_fits N (limit_held N limit) ≡ true
@@ -70,15 +70,15 @@ module _ {E : Type 0} where
       go true e later = elim (none-some i e) [ ]
       go false e later = later e (omega arith)
 
--- ---- the list and the slots: n entries from slot h on, around a ring of the first L of N slots, as the type's invariant has them
+-- ---- the list and the slots: n entries from slot h on, around a ring of the first L of N slots, whatever the free slots hold
 
-module _ {E : Type 0} (b : E) (slots : List E) (N L h n : ℕ) (q : Waiting E) (wide : length slots ≡ N)
-    (ok : (h < L) × (n ≤ L) × (L ≤ N) × (N ≤ 512) × IsLaid b N L h n slots) (seen : waiting_of (window slots L h n) h L ≡ q) where
+module _ {E : Type 0} (slots : List E) (N L h n : ℕ) (q : Waiting E) (wide : length slots ≡ N)
+    (ok : (h < L) × ((n ≤ L) × ((L ≤ N) × (N ≤ 512)))) (seen : waiting_of (window slots L h n) h L ≡ q) where
   fits : L ≤ length slots
-  fits = omega (arith, ok.2)
+  fits = omega (arith, ok.1.1.0)
 
   count_is : length q.items ≡ n
-  count_is = ap (λ (w : Waiting E). length w.items) (sym seen) ∙ length_window slots L h n ok.0 ok.1 fits
+  count_is = ap (λ (w : Waiting E). length w.items) (sym seen) ∙ length_window slots L h n ok.0 ok.1.0 fits
 
   limit_is : q.limit ≡ L
   limit_is = ap (λ (w : Waiting E). w.limit) (sym seen)
@@ -91,7 +91,7 @@ module _ {E : Type 0} (b : E) (slots : List E) (N L h n : ℕ) (q : Waiting E) (
   entry_is : (k s : ℕ) (d : E) → k < n → s ≡ slot_of q k → get_or slots s d ≡ get_or q.items k d
   entry_is k s d inside e =
       ap (λ (t : ℕ). get_or slots t d) (e ∙ slot_is k)
-      ∙ sym (window_at slots L h n k d ok.0 inside ok.1 fits)
+      ∙ sym (window_at slots L h n k d ok.0 inside ok.1.0 fits)
       ∙ ap (λ (w : Waiting E). get_or w.items k d) seen
 
   -- what waits in a place
@@ -107,16 +107,25 @@ module _ {E : Type 0} (b : E) (slots : List E) (N L h n : ℕ) (q : Waiting E) (
       ap (λ (x : E). Some x) (entry_is 0 h d some here) ∙ sym (first_is q.items d (omega (arith, count_is)))
 
   -- the oldest leaves
-  pub popped_held : (s : ℕ) (x : E) → 0 < n → s ≡ slot_of q 1 → waiting_of (window (set slots h x) L s (n - 1)) s L ≡ popped_front q
-  popped_held s x some e =
+  pub popped_held : (s : ℕ) → 0 < n → s ≡ slot_of q 1 → waiting_of (window slots L s (n - 1)) s L ≡ popped_front q
+  popped_held s some e =
       let at : s ≡ (h + 1) % L = e ∙ slot_is 1 in
-      let items : window (set slots h x) L s (n - 1) ≡ drop 1 q.items =
-      ap (λ (t : ℕ). window (set slots h x) L t (n - 1)) at
-      ∙ window_left slots L h n x ok.0 some ok.1 fits
-      ∙ ap (λ (w : Waiting E). drop 1 w.items) seen in
+      let items : window slots L s (n - 1) ≡ drop 1 q.items =
+      ap (λ (t : ℕ). window slots L t (n - 1)) at ∙ window_popped slots L h n ok.0 ok.1.0 fits ∙ ap (λ (w : Waiting E). drop 1 w.items) seen in
       ap₂ (λ (xs : List E) (t : ℕ). waiting_of xs t L) items e
       ∙ ap (λ (l : ℕ). waiting_of (drop 1 q.items) (slot_of q 1) l) (sym limit_is)
       ∙ sym (popped_some q (omega (arith, count_is)))
+
+  -- the same where its slot is written
+  left_held : (s : ℕ) (x : E) → 0 < n → s ≡ slot_of q 1 → waiting_of (window (set slots h x) L s (n - 1)) s L ≡ popped_front q
+  left_held s x some e =
+      let at : s ≡ (h + 1) % L = e ∙ slot_is 1 in
+      let same : window (set slots h x) L s (n - 1) ≡ window slots L s (n - 1) =
+      ap (λ (t : ℕ). window (set slots h x) L t (n - 1)) at
+      ∙ window_left slots L h n x ok.0 some ok.1.0 fits
+      ∙ sym (window_popped slots L h n ok.0 ok.1.0 fits)
+      ∙ ap (λ (t : ℕ). window slots L t (n - 1)) (sym at) in
+      ap (λ (xs : List E). waiting_of xs s L) same ∙ popped_held s some e
 
   -- one joins where there is room
   pub joined_held :
@@ -133,7 +142,7 @@ module _ {E : Type 0} (b : E) (slots : List E) (N L h n : ℕ) (q : Waiting E) (
       (s : ℕ) (x : E) → L ≤ n → s ≡ slot_of q 1 → waiting_of (window (set slots h x) L s n) s L ≡ joined q x
   pushed_out_held s x full e =
       let at : s ≡ (h + 1) % L = e ∙ slot_is 1 in
-      let all : n ≡ L = omega (arith, ok.1) in
+      let all : n ≡ L = omega (arith, ok.1.0) in
       let items : window (set slots h x) L s n ≡ drop 1 q.items ++ (x ∷ []) =
       ap₂ (λ (t m : ℕ). window (set slots h x) L t m) at all
       ∙ window_pushed_out slots L h x ok.0 fits
@@ -147,7 +156,7 @@ module _ {E : Type 0} (b : E) (slots : List E) (N L h n : ℕ) (q : Waiting E) (
   pub next_slot_held : L ≤ n → h ≡ next_slot q
   next_slot_held full =
       let most : max 1 q.limit ≡ L = omega (arith, limit_is, ok.0) in
-      let left : length (drop 1 q.items) ≡ L - 1 = length-drop 1 q.items ∙ omega (arith, count_is, ok.1) in
+      let left : length (drop 1 q.items) ≡ L - 1 = length-drop 1 q.items ∙ omega (arith, count_is, ok.1.0) in
       let same : h + 1 + (L - 1) ≡ h + L = omega (arith, ok.0) in
       let high : L ≤ h + L = omega arith in
       let back : h + L - L ≡ h = omega arith in
@@ -170,7 +179,7 @@ module _ {E : Type 0} (b : E) (slots : List E) (N L h n : ℕ) (q : Waiting E) (
   exchanged_held i s x inside e =
       let at : s ≡ (h + i) % L = e ∙ slot_is i in
       ap (λ (xs : List E). waiting_of xs h L)
-      (ap (λ (t : ℕ). window (set slots t x) L h n) at ∙ window_exchanged slots L h n i x ok.0 inside ok.1 fits)
+      (ap (λ (t : ℕ). window (set slots t x) L h n) at ∙ window_exchanged slots L h n i x ok.0 inside ok.1.0 fits)
       ∙ ap (λ (w : Waiting E). exchanged w i x) seen
 
   -- ---- the search: first the slots up to the ring's end, then those from its start on
@@ -180,7 +189,7 @@ module _ {E : Type 0} (b : E) (slots : List E) (N L h n : ℕ) (q : Waiting E) (
       let wide : h + m - h ≡ m = omega arith in
       ap (λ (k : ℕ). take k (drop h slots) ++ take (n - m) slots) wide
       ∙ ap (λ (k : ℕ). take k (drop h slots) ++ take (n - k) slots) e
-      ∙ sym (window_parts slots L h n ok.0 ok.1 fits)
+      ∙ sym (window_parts slots L h n ok.0 ok.1.0 fits)
       ∙ ap (λ (w : Waiting E). w.items) seen
 
   pub found_before_turn :
@@ -201,12 +210,57 @@ module _ {E : Type 0} (b : E) (slots : List E) (N L h n : ℕ) (q : Waiting E) (
       ∙ search_rest p 0 m (take (h + m - h) (drop h slots)) (take (n - m) slots) none whole
       ∙ ap (λ (xs : List E). position_from p 0 xs) (parts m e)
 
--- what a join cites, and a search
-pub ruleset join_steps = (joined_held, pushed_out_held, next_slot_held, out_held)
+-- ---- the same as the type's invariant has it, which says that each free slot holds a blank: what the clauses of `Queue` cite
 
-pub ruleset pop_steps = (first_got, popped_held)
+module _ {E : Type 0} (b : E) (slots : List E) (N L h n : ℕ) (q : Waiting E) (wide : length slots ≡ N)
+    (ok : (h < L) × (n ≤ L) × (L ≤ N) × (N ≤ 512) × IsLaid b N L h n slots) (seen : waiting_of (window slots L h n) h L ≡ q) where
+  ring : (h < L) × ((n ≤ L) × ((L ≤ N) × (N ≤ 512)))
+  ring = (ok.0, (ok.1, (ok.2, ok.3)))
+
+  pub laid_entry_got : (k s : ℕ) (d : E) → k < n → s ≡ slot_of q k → Some (get_or slots s d) ≡ slice_get q.items k
+  laid_entry_got = entry_got slots N L h n q wide ring seen
+
+  pub laid_first_got : (d : E) → 0 < n → Some (get_or slots h d) ≡ first q.items
+  laid_first_got = first_got slots N L h n q wide ring seen
+
+  pub laid_popped_held :
+      (s : ℕ) (x : E) → 0 < n → s ≡ slot_of q 1 → waiting_of (window (set slots h x) L s (n - 1)) s L ≡ popped_front q
+  laid_popped_held = left_held slots N L h n q wide ring seen
+
+  pub laid_joined_held :
+      (s : ℕ) (x : E) → n < L → s ≡ slot_of q n → waiting_of (window (set slots s x) L h (n + 1)) h L ≡ joined q x
+  laid_joined_held = joined_held slots N L h n q wide ring seen
+
+  pub laid_pushed_out_held :
+      (s : ℕ) (x : E) → L ≤ n → s ≡ slot_of q 1 → waiting_of (window (set slots h x) L s n) s L ≡ joined q x
+  laid_pushed_out_held = pushed_out_held slots N L h n q wide ring seen
+
+  pub laid_next_slot_held : L ≤ n → h ≡ next_slot q
+  laid_next_slot_held = next_slot_held slots N L h n q wide ring seen
+
+  pub laid_out_held : (d : E) → L ≤ n → Some (get_or slots h d) ≡ pushed_out q
+  laid_out_held = out_held slots N L h n q wide ring seen
+
+  pub laid_exchanged_held :
+      (i s : ℕ) (x : E) → i < n → s ≡ slot_of q i → waiting_of (window (set slots s x) L h n) h L ≡ exchanged q i x
+  laid_exchanged_held = exchanged_held slots N L h n q wide ring seen
+
+  pub laid_found_before_turn :
+      (p : E → Bool) (m k : ℕ) → m ≡ min n (L - h) → Some k ≡ position_from p 0 (take (h + m - h) (drop h slots))
+      → Some k ≡ position_from p 0 q.items
+  laid_found_before_turn = found_before_turn slots N L h n q wide ring seen
+
+  pub laid_found_behind_turn :
+      (p : E → Bool) (m : ℕ) (r : Option ℕ) → m ≡ min n (L - h) → None ≡ position_from p 0 (take (h + m - h) (drop h slots))
+      → r ≡ position_from p m (take (n - m) slots) → r ≡ position_from p 0 q.items
+  laid_found_behind_turn = found_behind_turn slots N L h n q wide ring seen
+
+-- what a join cites, and a search
+pub ruleset join_steps = (laid_joined_held, laid_pushed_out_held, laid_next_slot_held, laid_out_held)
+
+pub ruleset pop_steps = (laid_first_got, laid_popped_held)
 
 -- what a restart cites, and the making of a queue
 pub ruleset restart_steps = (all_blank, blank_empty)
 
-pub ruleset find_steps = (found_before_turn, found_behind_turn)
+pub ruleset find_steps = (laid_found_before_turn, laid_found_behind_turn)

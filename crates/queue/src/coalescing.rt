@@ -112,7 +112,7 @@ impl<const N: usize> CoalescingQueue<N> {
         ensures { result ≡ made N limit }
     {
         Some(CoalescingQueue {
-            queue: Queue::new(limit)?,
+            queue: Queue::with_limit(limit)?,
             next_sequence: 0,
             coalesced: 0,
             dropped: 0,

@@ -27,3 +27,5 @@ pub mod entry;
 pub mod fate;
 pub mod pool;
 pub mod queue;
+#[cfg(test)]
+mod tests;

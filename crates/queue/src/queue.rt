@@ -63,9 +63,16 @@ impl<E: Blank, const N: usize> Queue<E, N> {
         [E::blank(); N]
     }
 
+    // An empty queue, where it can have the limit. `blank` may be any entry: each free slot holds the entries' own blank.
+    pub fn new(blank: E, limit: u16) -> Option<Self>
+        ensures { result ≡ made N limit }
+    {
+        Self::with_limit(limit)
+    }
+
     // An empty queue, where it can have the limit.
     #[tactic(auto, using(crate::proofs::Queues::restart_steps))]
-    pub fn new(limit: u16) -> Option<Self>
+    pub fn with_limit(limit: u16) -> Option<Self>
         ensures { result ≡ made N limit }
     {
         if Self::fits(limit) {
@@ -161,7 +168,7 @@ impl<E: Blank, const N: usize> Queue<E, N> {
     }
 
     // The oldest, which stays.
-    #[tactic(auto, using(crate::proofs::Queues::first_got))]
+    #[tactic(auto, using(crate::proofs::Queues::laid_first_got))]
     pub fn first(&self) -> Option<E>
         ensures { result ≡ first self.now.items }
     {
@@ -172,7 +179,7 @@ impl<E: Blank, const N: usize> Queue<E, N> {
     }
 
     // What waits so many places behind the oldest.
-    #[tactic(auto, using(crate::proofs::Queues::entry_got))]
+    #[tactic(auto, using(crate::proofs::Queues::laid_entry_got))]
     pub fn entry_at(&self, place: u16) -> Option<E>
         ensures { result ≡ slice_get self.now.items place }
     {
@@ -222,7 +229,7 @@ impl<E: Blank, const N: usize> Queue<E, N> {
     }
 
     // Another entry in a place; beyond the last nothing changes.
-    #[tactic(auto, using(crate::proofs::Queues::exchanged_held))]
+    #[tactic(auto, using(crate::proofs::Queues::laid_exchanged_held))]
     pub fn exchange(&mut self, place: u16, entry: E)
         ensures { self.new ≡ exchanged self.old place entry }
     {
