@@ -255,12 +255,12 @@ module _ {E : Type 0} (b : E) (slots : List E) (N L h n : ℕ) (q : Waiting E) (
       → r ≡ position_from p m (take (n - m) slots) → r ≡ position_from p 0 q.items
   laid_found_behind_turn = found_behind_turn slots N L h n q wide ring seen
 
--- what a join cites, and a search
-pub ruleset join_steps = (laid_joined_held, laid_pushed_out_held, laid_next_slot_held, laid_out_held)
+-- what a join, a pop and a search cite: of any ring, and of the type's
+pub ruleset join_steps = (joined_held, pushed_out_held, next_slot_held, out_held, laid_joined_held, laid_pushed_out_held, laid_next_slot_held, laid_out_held)
 
-pub ruleset pop_steps = (laid_first_got, laid_popped_held)
+pub ruleset pop_steps = (first_got, popped_held, laid_first_got, laid_popped_held)
 
 -- what a restart cites, and the making of a queue
 pub ruleset restart_steps = (all_blank, blank_empty)
 
-pub ruleset find_steps = (laid_found_before_turn, laid_found_behind_turn)
+pub ruleset find_steps = (found_before_turn, found_behind_turn, laid_found_before_turn, laid_found_behind_turn)
