@@ -210,7 +210,7 @@ module _ {E : Type 0} (slots : List E) (N L h n : ℕ) (q : Waiting E) (wide : l
       ∙ search_rest p 0 m (take (h + m - h) (drop h slots)) (take (n - m) slots) none whole
       ∙ ap (λ (xs : List E). position_from p 0 xs) (parts m e)
 
--- ---- the same as the type's invariant has it, which says that each free slot holds a blank: what the clauses of `Queue` cite
+-- ---- the same as the type's invariant has it, which says that each free slot holds a blank: what the functions of `Queue` cite
 
 module _ {E : Type 0} (b : E) (slots : List E) (N L h n : ℕ) (q : Waiting E) (wide : length slots ≡ N)
     (ok : (h < L) × (n ≤ L) × (L ≤ N) × (N ≤ 512) × IsLaid b N L h n slots) (seen : waiting_of (window slots L h n) h L ≡ q) where

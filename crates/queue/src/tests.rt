@@ -1,4 +1,4 @@
-// A queue is made by each of its two public calls, which no clause can show: they succeed where the limit fits, and what is handed in comes out.
+// A queue is made by each of its two public calls: where the limit fits, and with nothing that waits, whatever blank is given.
 use crate::entry::Entry;
 use crate::queue::Queue;
 use std::test::Fail;
